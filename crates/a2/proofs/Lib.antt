@@ -1,4 +1,4 @@
 mod Adding
 mod LooseKeys
 mod RunWords
-mod Told
+mod Reported

@@ -17,13 +17,13 @@ pub loose_here : {A : Type 0} (f : A → Text) (words : List A) (index : ℕ) (a
     → a ≡ slice_index_or words (index - 1) a → b ≡ slice_index_or words index b → AreLooseKeys (f a) (f b) → HasLooseKeys (map f words)
 loose_here f words index a b least within is_a is_b are =
     let before : index - 1 < length words = omega arith in
-    let behind : index ≡ index - 1 + 1 = omega arith in
+    let following : index ≡ index - 1 + 1 = omega arith in
     record {
       at = index - 1;
       option = f a;
       value = f b;
       option_is = text_at f words (index - 1) a before is_a;
-      value_is = subst (λ n. slice_get (map f words) n ≡ Some (f b)) behind (text_at f words index b within is_b);
+      value_is = subst (λ n. slice_get (map f words) n ≡ Some (f b)) following (text_at f words index b within is_b);
       are = are;
     }
 
@@ -45,7 +45,7 @@ loose_behind f words index a b least within is_a is_b not from loose =
           (sym (text_at f words index b within is_b) ∙ ap (slice_get (map f words)) here ∙ loose.value_is) in
           let begins : Text → Type 0 = λ text. IsTrue (starts_with nat_eq text (codes "-")) in
           absurd (not (first ∙ loose.are.0, subst begins (sym second) loose.are.1))
-      | inr behind ↦ omega arith
+      | inr following ↦ omega arith
     ]
 
 pub none_loose : {A : Type 0} (f : A → Text) (words : List A) (index : ℕ) → length words ≤ index

@@ -8,15 +8,15 @@ use Rattle.a2_run.specs.declared.fault.RunFault.TheVariants.{Read}
 use Rattle.a2_run.specs.Answers.{Answers, LeavesBehind, OfSource, NothingSent, RestsOnTexts, is_read_fault, is_write_fault}
 use Rattle.a2_run.specs.Meaning.{IsRefused, IsRun, AreObjectLines}
 use Rattle.a2_run.specs.Status.{status_of}
-use Rattle.a2_scripts.specs.Scripts.{IsRefusedScript, IsMonText, OfScript}
-use Rattle.a2_scripts.specs.DebugScripts.{IsDebugRefusal, IsDebugText, ReadsFail}
-use Rattle.a2_host.specs.Complaints.{TellsLine}
-use Rattle.a2_host.specs.Shelves.{Shelved, Opens}
+use Rattle.a2_scripts.specs.Scripts.{IsScriptError, IsMonText, OfScript}
+use Rattle.a2_scripts.specs.DebugScripts.{IsDebugError, IsDebugText, ReadsFail}
+use Rattle.a2_host.specs.ErrorLines.{ReportsLine}
+use Rattle.a2_host.specs.Shelves.{ShelfState, Opens}
 use Rattle.a2.specs.declared.words.Order.{Order}
 use Rattle.a2.specs.declared.words.Order.TheVariants.{Asm, Mon, Debug, Run}
 use Rattle.a2.specs.declared.words.RunOrder.{RunOrder}
 use Rattle.a2.specs.declared.words.WordsFault.{WordsFault}
-use Rattle.a2.specs.Telling.{TellsFault}
+use Rattle.a2.specs.Telling.{ReportsFault}
 use Rattle.a2.specs.Words.{done_status, status_of_words, text_of_words}
 
 -- The text that an input gave was processed. The output and the answer are those of its meaning: the text either has an error,
@@ -41,12 +41,12 @@ abbrev pub AssemblesInput : Giver → Giver → Taker → Taker → Result (Unit
 AssemblesInput = AnswersInput (λ text. OfSource (IsRefused text)) (λ text _. AreObjectLines text)
 
 abbrev pub AnswersLines : Giver → Giver → Taker → Taker → Result (Unit {0}) RunFault → Type 0
-AnswersLines = AnswersInput (λ text. OfScript (IsRefusedScript text)) (λ text _. IsMonText text)
+AnswersLines = AnswersInput (λ text. OfScript (IsScriptError text)) (λ text _. IsMonText text)
 
 -- the source from one input was debugged with the commands from another
 pub record DebugsInputs (source source' script script' : Giver) (old new : Taker) (answer : Result (Unit {0}) RunFault) : Type 0 where
   pub meaning : IfSome source.bytes (λ text. IfSome script.bytes (λ lines.
-      Answers (IsDebugRefusal text lines) (λ _. IsDebugText text lines) old new answer))
+      Answers (IsDebugError text lines) (λ _. IsDebugText text lines) old new answer))
   pub fronts : TakesAtMost 65537 source source' × TakesAtMost 65537 script script'
   pub through : RestsOnTexts answer → LeavesBehind 65537 source source' × LeavesBehind 65537 script script'
   pub silent : NothingSent old new answer
@@ -60,42 +60,42 @@ IsUnopened old new answer = (answer ≡ Err Read) × (new ≡ old)
 -- the file with this name was opened, by one call, and the text of its reader was processed by the given relation; or it could
 -- not be opened
 abbrev pub AnswersFile : {R T : Type 0} → (R → Giver) → (Giver → Giver → Taker → Taker → Result T RunFault → Type 0) → List ℕ
-    → Shelved → Shelved → Taker → Taker → Result T RunFault → Type 0
+    → ShelfState → ShelfState → Taker → Taker → Result T RunFault → Type 0
 AnswersFile {R} giver AnswersIt name shelf shelf' old new answer = (opened : Result R RunFault) × Opens giver name shelf shelf' opened
     × MatchResult opened (λ reader. (left : R) × AnswersIt (giver reader) (giver left) old new answer) (λ _. IsUnopened old new answer)
 
 -- the file of a source was opened, then that of a script, and the source was debugged with the script; or one could not be
 -- opened
-abbrev pub DebugsFiles : {R : Type 0} → (R → Giver) → List ℕ → List ℕ → Shelved → Shelved → Taker → Taker
+abbrev pub DebugsFiles : {R : Type 0} → (R → Giver) → List ℕ → List ℕ → ShelfState → ShelfState → Taker → Taker
     → Result (Unit {0}) RunFault → Type 0
-DebugsFiles {R} giver source script shelf shelf' old new answer = (between : Shelved) × (opened : Result R RunFault)
+DebugsFiles {R} giver source script shelf shelf' old new answer = (between : ShelfState) × (opened : Result R RunFault)
     × Opens giver source shelf between opened × MatchResult opened
     (λ reader. AnswersFile giver (λ lines lines' before after answer.
     (left : R) × DebugsInputs (giver reader) (giver left) lines lines' before after answer) script between shelf' old new answer)
     (λ _. (shelf' ≡ between) × IsUnopened old new answer)
 
 -- the source of a run: a file, or the standard input if none is named, and then no file was opened
-abbrev pub RunsSource : {R : Type 0} → (R → Giver) → RunOrder → Shelved → Shelved → Giver → Giver → Taker → Taker → Result Cause RunFault → Type 0
+abbrev pub RunsSource : {R : Type 0} → (R → Giver) → RunOrder → ShelfState → ShelfState → Giver → Giver → Taker → Taker → Result Cause RunFault → Type 0
 RunsSource giver order shelf shelf' input input' old new answer = MatchOption order.source
     ((shelf' ≡ shelf) × RunsInput order.keys order.limit order.options input input' old new answer)
     (λ name. AnswersFile giver (RunsInput order.keys order.limit order.options) name.now shelf shelf' old new answer)
 
 -- what was done for an order: the error of its answer, if there is one, was reported, and the status is that of the answer
-abbrev pub Does : {R : Type 0} → (R → Giver) → Order → Shelved → Shelved → Giver → Giver → Taker → Taker → Taker → Taker → ℕ → Type 0
+abbrev pub Does : {R : Type 0} → (R → Giver) → Order → ShelfState → ShelfState → Giver → Giver → Taker → Taker → Taker → Taker → ℕ → Type 0
 Does giver (Asm source) shelf shelf' input input' old new told told' status = (answer : Result (Unit {0}) RunFault)
-    × (status ≡ done_status answer) × TellsFault answer told told' × AnswersFile giver AssemblesInput source.now shelf shelf' old new answer
+    × (status ≡ done_status answer) × ReportsFault answer told told' × AnswersFile giver AssemblesInput source.now shelf shelf' old new answer
 Does giver (Mon script) shelf shelf' input input' old new told told' status = (answer : Result (Unit {0}) RunFault)
-    × (status ≡ done_status answer) × TellsFault answer told told' × AnswersFile giver AnswersLines script.now shelf shelf' old new answer
+    × (status ≡ done_status answer) × ReportsFault answer told told' × AnswersFile giver AnswersLines script.now shelf shelf' old new answer
 Does giver (Debug source script) shelf shelf' input input' old new told told' status = (answer : Result (Unit {0}) RunFault)
-    × (status ≡ done_status answer) × TellsFault answer told told' × DebugsFiles giver source.now script.now shelf shelf' old new answer
+    × (status ≡ done_status answer) × ReportsFault answer told told' × DebugsFiles giver source.now script.now shelf shelf' old new answer
 Does giver (Run order) shelf shelf' input input' old new told told' status = (answer : Result Cause RunFault)
-    × (status ≡ status_of answer) × TellsFault answer told told' × RunsSource giver order shelf shelf' input input' old new answer
+    × (status ≡ status_of answer) × ReportsFault answer told told' × RunsSource giver order shelf shelf' input input' old new answer
 
 -- rejected arguments: no file was opened, nothing was written, the error was reported, and the status is the one of this error
-pub record Refuses (fault : WordsFault) (shelf shelf' : Shelved) (old new told told' : Taker) (status : ℕ) : Type 0 where
+pub record Refuses (fault : WordsFault) (shelf shelf' : ShelfState) (old new told told' : Taker) (status : ℕ) : Type 0 where
   pub unopened : shelf' ≡ shelf
   pub unsent : new ≡ old
-  pub line : TellsLine told told' (text_of_words fault)
+  pub line : ReportsLine told told' (text_of_words fault)
   pub status_is : status ≡ status_of_words fault
 
 -- What an exit status says about the output: with 1, 2 or 5 nothing was written; with 0 or 3 no write failed; with 4 a write

@@ -8,8 +8,8 @@ use Rattle.a2_run.specs.declared.Options.{Options}
 use Rattle.a2_run.specs.declared.fault.RunFault.{RunFault}
 use Rattle.a2_run.specs.Limits.{IsStepLimit, default_steps}
 use Rattle.a2_run.specs.Status.{fault_status}
-use Rattle.a2_host.specs.declared.HostWordsFault.{HostWordsFault}
-use Rattle.a2_host.specs.declared.HostWordsFault.TheVariants as host
+use Rattle.a2_host.specs.declared.HostArgumentsFault.{HostArgumentsFault}
+use Rattle.a2_host.specs.declared.HostArgumentsFault.TheVariants as host
 use Rattle.a2.specs.declared.words.Order.{Order}
 use Rattle.a2.specs.declared.words.Order.TheVariants.{Asm, Mon, Debug, Run}
 use Rattle.a2.specs.declared.words.RunOrder.{RunOrder}
@@ -135,7 +135,7 @@ pub record Asks (words : List Text) (asked : Result Order WordsFault) : Type 0 w
   pub refusal : 1 < length words → IfErr asked (IsRefusal words)
 
 -- the error of arguments that the host could not give: those that are not text are bad arguments
-abbrev pub of_host : HostWordsFault → WordsFault
+abbrev pub of_host : HostArgumentsFault → WordsFault
 of_host host.NotText = Words
 of_host host.Memory = Memory
 

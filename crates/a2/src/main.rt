@@ -4,7 +4,7 @@
 mod program;
 mod words;
 
-use a2_host::{HostFiles, words_of};
+use a2_host::{HostFiles, arguments_of};
 use a2_stream::{FromRead, ToWrite};
 use program::{obey, refuse_words};
 use std::process::ExitCode;
@@ -13,7 +13,7 @@ use words::WordsFault;
 fn main(rt: HostRuntime) -> ExitCode {
     let mut output = ToWrite::new(rt.stdout());
     let mut complaints = ToWrite::new(rt.stderr());
-    let status = match words_of(&rt) {
+    let status = match arguments_of(&rt) {
         Ok(words) => obey(
             rt.alloc(),
             words.as_slice(),

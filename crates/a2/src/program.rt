@@ -7,17 +7,17 @@ ghost use Rattle.a2_run.specs.declared.fault.RunFault.{RunFault as Fault};
 ghost use Rattle.a2_run.specs.declared.fault.RunFault.TheVariants.{Read};
 ghost use Rattle.a2_run.specs.Limits.{default_steps};
 ghost use Rattle.a2_run.specs.Status.{status_of};
-ghost use Rattle.a2_host.specs.Complaints.{TellsLine};
+ghost use Rattle.a2_host.specs.ErrorLines.{ReportsLine};
 ghost use Rattle.a2_host.specs.Shelves.{Opens};
 ghost use Rattle.a2.specs.declared.words.Order.{Order as Asked};
 ghost use Rattle.a2.specs.declared.words.WordsFault.{WordsFault as Refusal};
 ghost use Rattle.a2.specs.Program.{AnswersFile, AnswersLines, AssemblesInput, DebugsFiles, Does, Refuses, RunsInput, RunsSource};
 ghost use Rattle.a2.specs.Program.{Tells};
-ghost use Rattle.a2.specs.Telling.{IsToldBy, TellsFault};
+ghost use Rattle.a2.specs.Telling.{IsReportedBy, ReportsFault};
 ghost use Rattle.a2.specs.Words.{Asks, NamesFile, done_status, plain, status_of_words, text_of_words};
 
 use crate::words::{Order, RunOrder, WordsFault, order_of};
-use a2_host::{Shelf, tell};
+use a2_host::{Shelf, report};
 use a2_machine::Cause;
 use a2_run::{RunFault, asm_text, fault_status, run_text, status};
 use a2_scripts::{debug_text, mon_text};
@@ -27,7 +27,7 @@ use std::alloc::Global;
 /// Reports bad arguments by a line to `complaints`, and returns the exit status: 2 for bad arguments and bad keys, 5 if there
 /// is not enough memory. If a write fails, only the first part of the line was written.
 pub fn refuse_words<E: Output>(fault: WordsFault, complaints: &mut E) -> u8
-    ensures line { TellsLine (E.taker complaints.old) (E.taker complaints.new) (text_of_words fault) }
+    ensures line { ReportsLine (E.taker complaints.old) (E.taker complaints.new) (text_of_words fault) }
     ensures status { result ≡ status_of_words fault }
 {
     // If this fails, there is nowhere left to report it.
@@ -134,22 +134,22 @@ fn debug_files<S: Shelf, W: Output>(
 }
 
 // Reports the error of an answer, if it has one.
-fn tell_fault<T, E: Output>(answer: &Result<T, RunFault>, complaints: &mut E)
+fn report_fault<T, E: Output>(answer: &Result<T, RunFault>, complaints: &mut E)
     ensures silent { IsOk answer.now → complaints.new ≡ complaints.old }
-    ensures told { TellsFault answer.now (E.taker complaints.old) (E.taker complaints.new) }
+    ensures told { ReportsFault answer.now (E.taker complaints.old) (E.taker complaints.new) }
 {
     if let Err(fault) = answer {
-        tell(fault.text().as_str(), complaints);
+        report(fault.text().as_str(), complaints);
     }
 }
 
 // Reports the error of an answer, if it has one, and returns the exit status.
-fn tell_done<E: Output>(answer: &Result<(), RunFault>, complaints: &mut E) -> u8
+fn report_done<E: Output>(answer: &Result<(), RunFault>, complaints: &mut E) -> u8
     ensures status { result ≡ done_status answer.now }
     ensures silent { result ≡ 0 ⊎ result ≡ 3 → complaints.new ≡ complaints.old }
-    ensures told { TellsFault answer.now (E.taker complaints.old) (E.taker complaints.new) }
+    ensures told { ReportsFault answer.now (E.taker complaints.old) (E.taker complaints.new) }
 {
-    tell_fault(answer, complaints);
+    report_fault(answer, complaints);
     match answer {
         Ok(()) => 0,
         Err(fault) => fault_status(fault),
@@ -157,12 +157,12 @@ fn tell_done<E: Output>(answer: &Result<(), RunFault>, complaints: &mut E) -> u8
 }
 
 // Reports the error of a run, if it has one, and returns the exit status.
-fn tell_run<E: Output>(answer: &Result<Cause, RunFault>, complaints: &mut E) -> u8
+fn report_run<E: Output>(answer: &Result<Cause, RunFault>, complaints: &mut E) -> u8
     ensures status { result ≡ status_of answer.now }
     ensures silent { result ≡ 0 ⊎ result ≡ 3 → complaints.new ≡ complaints.old }
-    ensures told { TellsFault answer.now (E.taker complaints.old) (E.taker complaints.new) }
+    ensures told { ReportsFault answer.now (E.taker complaints.old) (E.taker complaints.new) }
 {
-    tell_fault(answer, complaints);
+    report_fault(answer, complaints);
     status(answer)
 }
 
@@ -183,14 +183,14 @@ fn follow<S: Shelf, R: Input, W: Output, E: Output>(
     ensures unread { NamesFile order.now → input.new ≡ input.old }
 {
     match order {
-        Order::Run(order) => tell_run(&run_file(alloc, shelf, input, order, output), complaints),
+        Order::Run(order) => report_run(&run_file(alloc, shelf, input, order, output), complaints),
         Order::Asm { source } => {
-            tell_done(&assemble_file(alloc, shelf, source, output), complaints)
+            report_done(&assemble_file(alloc, shelf, source, output), complaints)
         }
         Order::Mon { script } => {
-            tell_done(&answer_file(alloc, shelf, script, output), complaints)
+            report_done(&answer_file(alloc, shelf, script, output), complaints)
         }
-        Order::Debug { source, script } => tell_done(
+        Order::Debug { source, script } => report_done(
             &debug_files(alloc, shelf, source, script, output),
             complaints,
         ),
@@ -219,14 +219,14 @@ pub fn obey<S: Shelf, R: Input, W: Output, E: Output>(
         (W.taker output.old) (W.taker output.new) (E.taker complaints.old) (E.taker complaints.new) result) }
     // Without arguments the input is run in the guarded machine, with no keys and at most the default number of steps.
     ensures plain { length words.now ≤ 1 → (answer : Result Stop Fault) × (result ≡ status_of answer)
-        × TellsFault answer (E.taker complaints.old) (E.taker complaints.new)
+        × ReportsFault answer (E.taker complaints.old) (E.taker complaints.new)
         × RunsInput [] default_steps plain (R.giver input.old) (R.giver input.new) (W.taker output.old) (W.taker output.new) answer }
     // For all arguments the status is at most 5. With 1, 2 or 5 nothing was written. With 0 or 3 no write failed. With 4 a
     // write failed, or nothing was written.
     ensures output { Tells result (W.taker output.old) (W.taker output.new) }
     // With 0 and 3 nothing is reported. With any other status one line is reported, with a text that belongs to the status.
     ensures silent { result ≡ 0 ⊎ result ≡ 3 → complaints.new ≡ complaints.old }
-    ensures told { IsToldBy result (E.taker complaints.old) (E.taker complaints.new) }
+    ensures told { IsReportedBy result (E.taker complaints.old) (E.taker complaints.new) }
     // If there is an argument after the name, the input is not read.
     ensures unread { 1 < length words.now → input.new ≡ input.old }
 {

@@ -10,7 +10,7 @@ ghost use Rattle.a2.specs.Words.{AreLooseKeys, Asks, HasLooseKeys, IsFlag, IsOrd
 ghost use Rattle.a2.specs.Words.{SaysKeys, SaysLimit, plain_run, text_of_words};
 
 use a2_bus::Keys;
-use a2_host::HostWordsFault;
+use a2_host::HostArgumentsFault;
 use a2_run::{DEFAULT_STEPS, Options, step_limit};
 use clap::error::ErrorKind;
 use clap::{Arg, ArgAction, ArgMatches, Command};
@@ -75,15 +75,15 @@ impl From<AllocError> for WordsFault {
     }
 }
 
-impl From<HostWordsFault> for WordsFault {
+impl From<HostArgumentsFault> for WordsFault {
     ghost use Rattle.a2.specs.Words.{of_host};
 
     ghost from_gives = { λ fault e. e ≡ of_host fault };
 
-    fn from(fault: HostWordsFault) -> WordsFault {
+    fn from(fault: HostArgumentsFault) -> WordsFault {
         match fault {
-            HostWordsFault::NotText => WordsFault::Words,
-            HostWordsFault::Memory => WordsFault::Memory,
+            HostArgumentsFault::NotText => WordsFault::Words,
+            HostArgumentsFault::Memory => WordsFault::Memory,
         }
     }
 }

@@ -4,7 +4,7 @@ use Rattle.std.proofs.Common.{refl, sym, ap, ◌∙◌, subst}
 use Rattle.std.proofs.lemmas.List.{length-map, map-append}
 use Rattle.std.proofs.lemmas.List.Folds.{list_all-map, fold-map, flat_map-map}
 use Rattle.std.proofs.lemmas.Simd.{map-map}
-use Rattle.a2_text.specs.Refusals.{◌otherwise◌}
+use Rattle.a2_text.specs.FirstError.{◌otherwise◌}
 use Rattle.a2_opcode.specs.declared.Mnemonic.{Mnemonic}
 use Rattle.a2_syntax.specs.declared.fault.Fault.{Fault}
 use Rattle.a2_syntax.specs.declared.source.Term.{Term}
@@ -23,8 +23,8 @@ use Rattle.a2_asm.specs.Modes.{mode_of}
 use Rattle.a2_asm.specs.Layout.{Row, next_of, label_of, defined_by, names, end_of}
 use Rattle.a2_asm.specs.Laying.{byte_from}
 use Rattle.a2_asm.specs.Bytes.{bytes_of, image, is_instruction, statement_of, statements_of, first_instruction}
-use Rattle.a2_asm.specs.Refusals.{first_behind, refuse_names, refuse_place, refuse_operand, refuse_bytes, refuse_body, IsLayoutRefusal}
-use Rattle.a2_asm.specs.Pass.{place_behind, row_behind, rows_behind, source_rows, layout_refusal}
+use Rattle.a2_asm.specs.Refusals.{first_error_in_order, refuse_names, refuse_place, refuse_operand, refuse_bytes, refuse_body, IsLayoutError}
+use Rattle.a2_asm.specs.Pass.{next_place, next_row, next_rows, source_rows, layout_error}
 use Rattle.a2_asm.specs.Programs.{IsProgram}
 use Rattle.a2_asm.proofs.MadeLaws.{IsMade, program-of, refused-of}
 
@@ -74,7 +74,7 @@ bare_row row = record { line = bare_line row.line; place = row.place; next = row
 abbrev row_at : {A : Type 0} → Names → ℕ → ℕ → Line A → Row A
 row_at earlier n here line = record {
   line = line;
-  place = place_behind earlier n here line.body;
+  place = next_place earlier n here line.body;
   next = next_of earlier here line.body;
   label = label_of earlier here line.body;
 }
@@ -84,42 +84,42 @@ row_at-bare : {A : Type 0} (all : Names) (n here : ℕ) (label : Option (List �
 row_at-bare all n here label (Instr m o) = simp mode-bare
 row_at-bare all n here label _ = search (number-bare, length-map)
 
-row-bare : {A : Type 0} (before : List (Row A)) (line : Line A) → row_behind (map bare_row before) (bare_line line) ≡ bare_row (row_behind before line)
+row-bare : {A : Type 0} (before : List (Row A)) (line : Line A) → next_row (map bare_row before) (bare_line line) ≡ bare_row (next_row before line)
 row-bare before line =
     (λ i. row_at (flat_map-map (λ row. defined_by row.line.label row.label) bare_row before i) (length-map before bare_row i + 1) (fold-map (λ _ row. row.next) bare_row 768 before i) (bare_line line))
     ∙ row_at-bare (names before) (length before + 1) (end_of before) line.label line.body
 
-rows_behind-bare : {A : Type 0} (before : List (Row A)) (lines : List (Line A)) → rows_behind (map bare_row before) (bare lines) ≡ map bare_row (rows_behind before lines)
-rows_behind-bare before [] = refl
-rows_behind-bare before (line ∷ lines) = simp (row-bare, ← rows_behind-bare (before ++ row_behind before line ∷ []) lines, map-append)
+next_rows-bare : {A : Type 0} (before : List (Row A)) (lines : List (Line A)) → next_rows (map bare_row before) (bare lines) ≡ map bare_row (next_rows before lines)
+next_rows-bare before [] = refl
+next_rows-bare before (line ∷ lines) = simp (row-bare, ← next_rows-bare (before ++ next_row before line ∷ []) lines, map-append)
 
 -- the rows of the bare lines
 pub rows-bare : {A : Type 0} (lines : List (Line A)) → source_rows (bare lines) ≡ map bare_row (source_rows lines)
-rows-bare lines = rows_behind-bare [] lines
+rows-bare lines = next_rows-bare [] lines
 
 pub names-bare : {A : Type 0} (rows : List (Row A)) → names (map bare_row rows) ≡ names rows
 names-bare rows = flat_map-map _ _ rows
 
 -- a check that finds the same errors with and without allocators
-first_behind-map : {X Y : Type 0} (v : X → Y) (f : List Y → Y → Option Fault) (g : List X → X → Option Fault)
+first_error_in_order-map : {X Y : Type 0} (v : X → Y) (f : List Y → Y → Option Fault) (g : List X → X → Option Fault)
     → ((before : List X) (x : X) → f (map v before) (v x) ≡ g before x)
-    → (before xs : List X) → first_behind f (map v before) (map v xs) ≡ first_behind g before xs
-first_behind-map v f g h before [] = refl
-first_behind-map v f g h before (x ∷ xs) = simp (h, ← first_behind-map v f g h (before ++ x ∷ []) xs, map-append)
+    → (before xs : List X) → first_error_in_order f (map v before) (map v xs) ≡ first_error_in_order g before xs
+first_error_in_order-map v f g h before [] = refl
+first_error_in_order-map v f g h before (x ∷ xs) = simp (h, ← first_error_in_order-map v f g h (before ++ x ∷ []) xs, map-append)
 
-labels-bare : {A : Type 0} (lines : List (Line A)) → first_behind refuse_names [] (bare lines) ≡ first_behind refuse_names [] lines
-labels-bare lines = first_behind-map bare_line refuse_names refuse_names (λ before line. search (fold-map, length-map)) [] lines
+labels-bare : {A : Type 0} (lines : List (Line A)) → first_error_in_order refuse_names [] (bare lines) ≡ first_error_in_order refuse_names [] lines
+labels-bare lines = first_error_in_order-map bare_line refuse_names refuse_names (λ before line. search (fold-map, length-map)) [] lines
 
 module _ {A : Type 0} (all : Names) where
-  pub placed-bare : (rows : List (Row A)) → first_behind (refuse_place all) [] (map bare_row rows) ≡ first_behind (refuse_place all) [] rows
-  placed-bare rows = first_behind-map bare_row (refuse_place all) (refuse_place all) (λ before row. search (flat_map-map, body-bare)) [] rows
+  pub placed-bare : (rows : List (Row A)) → first_error_in_order (refuse_place all) [] (map bare_row rows) ≡ first_error_in_order (refuse_place all) [] rows
+  placed-bare rows = first_error_in_order-map bare_row (refuse_place all) (refuse_place all) (λ before row. search (flat_map-map, body-bare)) [] rows
 
   image-bare : (rows : List (Row A)) → image all (map bare_row rows) ≡ image all rows
   image-bare [] = refl
   image-bare (row ∷ more) = λ i a. (byte_from row.place.address (bytes-bare all row.place row.line.body i) a otherwise image-bare more i a)
 
-  laid-bare : (rows : List (Row A)) → first_behind (refuse_bytes all) [] (map bare_row rows) ≡ first_behind (refuse_bytes all) [] rows
-  laid-bare rows = first_behind-map bare_row (refuse_bytes all) (refuse_bytes all) (λ before row. search (operand_refusal-bare, image-bare, bytes-bare)) [] rows
+  laid-bare : (rows : List (Row A)) → first_error_in_order (refuse_bytes all) [] (map bare_row rows) ≡ first_error_in_order (refuse_bytes all) [] rows
+  laid-bare rows = first_error_in_order-map bare_row (refuse_bytes all) (refuse_bytes all) (λ before row. search (operand_refusal-bare, image-bare, bytes-bare)) [] rows
 
   statements-bare : (rows : List (Row A)) → statements_of all (map bare_row rows) ≡ statements_of all rows
   statements-bare rows = simp (flat_map-map, statement-bare)
@@ -129,7 +129,7 @@ entry-bare [] = refl
 entry-bare (row ∷ more) = simp (instruction-bare, entry-bare more)
 
 -- the bare lines have the same errors as the lines
-pub refusal-bare : {A : Type 0} (lines : List (Line A)) → layout_refusal (bare lines) ≡ layout_refusal lines
+pub refusal-bare : {A : Type 0} (lines : List (Line A)) → layout_error (bare lines) ≡ layout_error lines
 refusal-bare lines = simp (labels-bare, rows-bare, names-bare, placed-bare, laid-bare, entry-bare)
 
 -- a program of the lines is a program of the bare lines
@@ -143,8 +143,8 @@ program-bare lines p is = record {
 }
 
 -- a result for the lines is a result for their source
-pub refused-by : {A : Type 0} (lines : List (Line A)) (source : List BareLine) (fault : Fault) → bare lines ≡ source → layout_refusal lines ≡ Some fault → IsLayoutRefusal source fault
-refused-by lines source fault is h = refused-of source fault (ap layout_refusal (sym is) ∙ refusal-bare lines ∙ h)
+pub refused-by : {A : Type 0} (lines : List (Line A)) (source : List BareLine) (fault : Fault) → bare lines ≡ source → layout_error lines ≡ Some fault → IsLayoutError source fault
+refused-by lines source fault is h = refused-of source fault (ap layout_error (sym is) ∙ refusal-bare lines ∙ h)
 
 pub made-of_lines : {A : Type 0} (lines : List (Line A)) (source : List BareLine) (p : Assembled) → bare lines ≡ source → IsMade lines p → IsProgram source p
 made-of_lines lines source p is made = subst (λ s. IsProgram s p) is (program-of (bare lines) p (program-bare lines p made))

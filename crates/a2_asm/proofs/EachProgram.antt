@@ -10,8 +10,8 @@ use Rattle.a2_asm.specs.Assembled.{Assembled}
 use Rattle.a2_asm.specs.Values.{Names}
 use Rattle.a2_asm.specs.Layout.{Row, names}
 use Rattle.a2_asm.specs.Bytes.{bytes_of, image, statements_of, first_instruction}
-use Rattle.a2_asm.specs.Refusals.{IsLayoutRefusal}
-use Rattle.a2_asm.specs.Pass.{source_rows, layout_refusal}
+use Rattle.a2_asm.specs.Refusals.{IsLayoutError}
+use Rattle.a2_asm.specs.Pass.{source_rows, layout_error}
 use Rattle.a2_asm.specs.Programs.{IsProgram}
 use Rattle.a2_asm.proofs.MadeLaws.{program-of, refused-of}
 use Rattle.a2_asm.proofs.PassedLaws.{accepted-parts}
@@ -32,16 +32,16 @@ abbrev end_of_bytes : {A : Type 0} → Names → List (Row A) → ℕ
 end_of_bytes all [] = 0
 end_of_bytes all (row ∷ more) = row.place.address + length (bytes_of all row.place row.line.body) + end_of_bytes all more
 
-nothing-behind : {A : Type 0} (all : Names) (rows : List (Row A)) (a : ℕ) → end_of_bytes all rows ≤ a → image all rows a ≡ None
-nothing-behind all [] a le = refl
-nothing-behind all (row ∷ more) a le = grind (arith, nat_tests, slice_get_past, nothing-behind all more a)
+nothing-following : {A : Type 0} (all : Names) (rows : List (Row A)) (a : ℕ) → end_of_bytes all rows ≤ a → image all rows a ≡ None
+nothing-following all [] a le = refl
+nothing-following all (row ∷ more) a le = grind (arith, nat_tests, slice_get_past, nothing-following all more a)
 
 some-of : (o : Option ℕ) → is_some o ≡ true → (n : ℕ) × (o ≡ Some n)
 some-of (Some n) e = (n, refl)
 some-of None e = cc
 
 -- lines without an error form a program
-pub program-of-source : {A : Type 0} (source : List (Line A)) → layout_refusal source ≡ None → (p : Assembled) × IsProgram source p
+pub program-of-source : {A : Type 0} (source : List (Line A)) → layout_error source ≡ None → (p : Assembled) × IsProgram source p
 program-of-source source e =
     let all = names (source_rows source) in
     let first = some-of (first_instruction (source_rows source)) (accepted-parts source e).1 in
@@ -55,16 +55,16 @@ program-of-source source e =
       program-of source made (record {
         accepted = e;
         named = refl;
-        laid = held-cells (image all (source_rows source)) (end_of_bytes all (source_rows source)) (nothing-behind all (source_rows source));
+        laid = held-cells (image all (source_rows source)) (end_of_bytes all (source_rows source)) (nothing-following all (source_rows source));
         stated = refl;
         begins = first.1;
       }),
     )
 
 -- lines that have no error form a program
-pub refused-or-program : {A : Type 0} (source : List (Line A)) → ((fault : Fault) → IsLayoutRefusal source fault → ⊥) → (p : Assembled) × IsProgram source p
-refused-or-program source unrefused = by (layout_refusal source) refl
+pub refused-or-program : {A : Type 0} (source : List (Line A)) → ((fault : Fault) → IsLayoutError source fault → ⊥) → (p : Assembled) × IsProgram source p
+refused-or-program source unrefused = by (layout_error source) refl
   where
-    by : (o : Option Fault) → layout_refusal source ≡ o → (p : Assembled) × IsProgram source p
+    by : (o : Option Fault) → layout_error source ≡ o → (p : Assembled) × IsProgram source p
     by (Some fault) e = absurd (unrefused fault (refused-of source fault e))
     by None e = program-of-source source e

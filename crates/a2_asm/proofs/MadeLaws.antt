@@ -7,14 +7,14 @@ use Rattle.a2_syntax.specs.declared.source.Line.{Line}
 use Rattle.a2_asm.specs.Assembled.{Assembled}
 use Rattle.a2_asm.specs.Layout.{names}
 use Rattle.a2_asm.specs.Bytes.{image, statements_of, first_instruction}
-use Rattle.a2_asm.specs.Refusals.{first_behind, refuse_names, refuse_place, refuse_bytes, refusal_in, IsLayoutRefusal}
-use Rattle.a2_asm.specs.Pass.{source_rows, layout_refusal}
+use Rattle.a2_asm.specs.Refusals.{first_error_in_order, refuse_names, refuse_place, refuse_bytes, refusal_in, IsLayoutError}
+use Rattle.a2_asm.specs.Pass.{source_rows, layout_error}
 use Rattle.a2_asm.specs.Programs.{IsProgram, AreAlike}
 use Rattle.a2_asm.proofs.RowLaws.{rows-fit, one-layout}
 
 -- the program made with the places of the first pass
 pub record IsMade {A : Type 0} (source : List (Line A)) (p : Assembled) : Type 0 where
-  pub accepted : layout_refusal source ≡ None
+  pub accepted : layout_error source ≡ None
   pub named : p.names ≡ names (source_rows source)
   pub laid : (a : ℕ) → held p.image a ≡ image (names (source_rows source)) (source_rows source) a
   pub stated : p.statements ≡ statements_of (names (source_rows source)) (source_rows source)
@@ -22,8 +22,8 @@ pub record IsMade {A : Type 0} (source : List (Line A)) (p : Assembled) : Type 0
 
 -- the results of both passes form a program
 pub made-by : {A : Type 0} (source : List (Line A)) (p : Assembled)
-    → first_behind refuse_names [] source ≡ None → first_behind (refuse_place (names (source_rows source))) [] (source_rows source) ≡ None
-    → first_behind (refuse_bytes p.names) [] (source_rows source) ≡ None → p.names ≡ names (source_rows source) → ((a : ℕ) → held p.image a ≡ image p.names (source_rows source) a)
+    → first_error_in_order refuse_names [] source ≡ None → first_error_in_order (refuse_place (names (source_rows source))) [] (source_rows source) ≡ None
+    → first_error_in_order (refuse_bytes p.names) [] (source_rows source) ≡ None → p.names ≡ names (source_rows source) → ((a : ℕ) → held p.image a ≡ image p.names (source_rows source) a)
     → p.statements ≡ statements_of p.names (source_rows source) → first_instruction (source_rows source) ≡ Some p.entry → IsMade source p
 made-by source p few placed laid named bytes stated begins = record {
   accepted = grind arith;
@@ -55,19 +55,19 @@ program-of source p is = record {
   begins = is.begins;
 }
 
-pub refusal-of : {A : Type 0} (source : List (Line A)) (fault : Fault) → IsLayoutRefusal source fault → layout_refusal source ≡ Some fault
+pub refusal-of : {A : Type 0} (source : List (Line A)) (fault : Fault) → IsLayoutError source fault → layout_error source ≡ Some fault
 refusal-of source fault (layout, is, e) =
     sym (ap (refusal_in source) (one-layout source layout (source_rows source) is (rows-fit source))) ∙ e
 
-pub refused-of : {A : Type 0} (source : List (Line A)) (fault : Fault) → layout_refusal source ≡ Some fault → IsLayoutRefusal source fault
+pub refused-of : {A : Type 0} (source : List (Line A)) (fault : Fault) → layout_error source ≡ Some fault → IsLayoutError source fault
 refused-of source fault e = (source_rows source, rows-fit source, e)
 
 -- lines have at most one first error
-pub one-layout_refusal : {A : Type 0} (source : List (Line A)) (fault other : Fault) → IsLayoutRefusal source fault → IsLayoutRefusal source other → fault ≡ other
-one-layout_refusal source fault other a b = cc (refusal-of source fault a, refusal-of source other b)
+pub one-layout_error : {A : Type 0} (source : List (Line A)) (fault other : Fault) → IsLayoutError source fault → IsLayoutError source other → fault ≡ other
+one-layout_error source fault other a b = cc (refusal-of source fault a, refusal-of source other b)
 
 -- lines that have an error have no program
-pub refused-no-program : {A : Type 0} (source : List (Line A)) (fault : Fault) (p : Assembled) → IsLayoutRefusal source fault → IsProgram source p → ⊥
+pub refused-no-program : {A : Type 0} (source : List (Line A)) (fault : Fault) (p : Assembled) → IsLayoutError source fault → IsProgram source p → ⊥
 refused-no-program source fault p a b = cc (refusal-of source fault a, (made-of source p b).accepted)
 
 -- lines have at most one program, except for how its image is kept

@@ -22,8 +22,8 @@ use Rattle.a2_asm.specs.Modes.{has_mode, mode_of}
 use Rattle.a2_asm.specs.Layout.{Row, IsPlaced, names, mode_in, size}
 use Rattle.a2_asm.specs.Laying.{meets}
 use Rattle.a2_asm.specs.Bytes.{value_or_zero, bytes_of, word_bytes, instr_of, image, first_instruction}
-use Rattle.a2_asm.specs.Refusals.{first_behind, is_outside, lacks_row, refuse_body, refuse_line, refuse_place, refuse_operand, refuse_bytes}
-use Rattle.a2_asm.specs.Pass.{row_behind, source_rows, layout_refusal}
+use Rattle.a2_asm.specs.Refusals.{first_error_in_order, is_outside, lacks_row, refuse_body, refuse_line, refuse_place, refuse_operand, refuse_bytes}
+use Rattle.a2_asm.specs.Pass.{next_row, source_rows, layout_error}
 use Rattle.a2_asm.proofs.FirstLaws.{at-split}
 use Rattle.a2_asm.proofs.BytesLaws.{operand-refused}
 use Rattle.a2_asm.proofs.RowLaws.{rows-fit, place_at, row-read}
@@ -55,17 +55,17 @@ passes : {A : Type 0} (all earlier : Names) (place : Place) (line : Line A) → 
     → (refuse_body all earlier place line.body ≡ None) × (lacks_row place line.body ≡ false) × (is_outside place ≡ false)
 passes all earlier place line h = grind arith
 
-pub keeps : {A : Type 0} (source : List (Line A)) (before after : List (Row A)) (row : Row A) → first_behind (refuse_place (names (source_rows source))) [] (source_rows source) ≡ None
+pub keeps : {A : Type 0} (source : List (Line A)) (before after : List (Row A)) (row : Row A) → first_error_in_order (refuse_place (names (source_rows source))) [] (source_rows source) ≡ None
     → source_rows source ≡ before ++ row ∷ after → Keeps (names (source_rows source)) before row
 keeps source before after row h split =
     let all = names (source_rows source) in
     let p = passes all (names before) row.place row.line
-    (at-split (refuse_place all) [] before after row (subst (λ rows. first_behind (refuse_place all) [] rows ≡ None) split h)) in
+    (at-split (refuse_place all) [] before after row (subst (λ rows. first_error_in_order (refuse_place all) [] rows ≡ None) split h)) in
     record { now = p.0; has_row = p.1; inside = p.2; placed = (rows-fit source).placed before row after split }
 
 -- the row of a line at the place that the second pass reads
 abbrev pub seat : {A : Type 0} → List (Line A) → List Place → ℕ → Line A → Row A
-seat lines places i line = record (row_behind (take i (source_rows lines)) line) { place = place_at places i }
+seat lines places i line = record (next_row (take i (source_rows lines)) line) { place = place_at places i }
 
 pub record Seated {A : Type 0} (lines : List (Line A)) (i : ℕ) (row : Row A) : Type 0 where
   pub taken : take (i + 1) (source_rows lines) ≡ take i (source_rows lines) ++ row ∷ []
@@ -73,11 +73,11 @@ pub record Seated {A : Type 0} (lines : List (Line A)) (i : ℕ) (row : Row A) :
   pub keeps : Keeps (names (source_rows lines)) (take i (source_rows lines)) row
 
 pub seated : {A : Type 0} (lines : List (Line A)) (places : List Place) (i : ℕ) (line : Line A) → places ≡ map (λ row. row.place) (source_rows lines) → i < length lines
-    → line ≡ get_or lines i line → first_behind (refuse_place (names (source_rows lines))) [] (source_rows lines) ≡ None → Seated lines i (seat lines places i line)
+    → line ≡ get_or lines i line → first_error_in_order (refuse_place (names (source_rows lines))) [] (source_rows lines) ≡ None → Seated lines i (seat lines places i line)
 seated lines places i line are lt e placed =
     let rows = source_rows lines in
     let cut = row-read lines i line lt e in
-    let row = row_behind (take i rows) line in
+    let row = next_row (take i rows) line in
     let kept = keeps lines (take i rows) (drop (i + 1) rows) row placed (sym (take-append-drop i rows) ∙ ap (λ more. take i rows ++ more) cut.2) in
     subst (Seated lines i) (ap (λ place. record row { place = place }) (sym (ap (λ ps. place_at ps i) are ∙ cut.3)))
     (record { taken = cut.1; dropped = cut.2; keeps = kept })
@@ -111,22 +111,22 @@ laid : {A : Type 0} (all : Names) (before : List (Row A)) (row : Row A) → refu
 laid all before row h = grind arith
 
 -- the parts of a source's error
-pub accepted-parts : {A : Type 0} (source : List (Line A)) → layout_refusal source ≡ None
-    → (first_behind (refuse_place (names (source_rows source))) [] (source_rows source) ≡ None) × (is_some (first_instruction (source_rows source)) ≡ true)
-    × (first_behind (refuse_bytes (names (source_rows source))) [] (source_rows source) ≡ None)
+pub accepted-parts : {A : Type 0} (source : List (Line A)) → layout_error source ≡ None
+    → (first_error_in_order (refuse_place (names (source_rows source))) [] (source_rows source) ≡ None) × (is_some (first_instruction (source_rows source)) ≡ true)
+    × (first_error_in_order (refuse_bytes (names (source_rows source))) [] (source_rows source) ≡ None)
 accepted-parts source e = grind arith
 
-pub passed-is : {A : Type 0} (source : List (Line A)) (before after : List (Row A)) (row : Row A) → layout_refusal source ≡ None → source_rows source ≡ before ++ row ∷ after
+pub passed-is : {A : Type 0} (source : List (Line A)) (before after : List (Row A)) (row : Row A) → layout_error source ≡ None → source_rows source ≡ before ++ row ∷ after
     → Passed (names (source_rows source)) before row
 passed-is source before after row e split =
     let all = names (source_rows source) in
     let ok = accepted-parts source e in
     let k = keeps source before after row ok.0 split in
-    let l = laid all before row (at-split (refuse_bytes all) [] before after row (subst (λ rows. first_behind (refuse_bytes all) [] rows ≡ None) split ok.2)) in
+    let l = laid all before row (at-split (refuse_bytes all) [] before after row (subst (λ rows. first_error_in_order (refuse_bytes all) [] rows ≡ None) split ok.2)) in
     record { keeps = k; later = l.0; free = l.1; long = bytes-length all (names before) row.place row.line.body k.has_row k.placed.mode k.placed.size l.0 }
 
 -- rows without errors hold nothing at or above $C000
-pub none-outside : {A : Type 0} (source : List (Line A)) (before after : List (Row A)) (a : ℕ) → layout_refusal source ≡ None → source_rows source ≡ before ++ after → 49152 ≤ a
+pub none-outside : {A : Type 0} (source : List (Line A)) (before after : List (Row A)) (a : ℕ) → layout_error source ≡ None → source_rows source ≡ before ++ after → 49152 ≤ a
     → image (names (source_rows source)) after a ≡ None
 none-outside source before [] a e split le = refl
 none-outside source before (row ∷ after) a e split le =

@@ -72,8 +72,8 @@ abbrev pub CodeInRam : Assembled → Type 0
 CodeInRam p = (a : ℕ) → IsTrue (is_code p.statements a) → a < ram_end
 
 -- the image has each byte of code
-abbrev pub CodeIsHeld : Assembled → Type 0
-CodeIsHeld p = (a : ℕ) → IsTrue (is_code p.statements a) → (byte : ℕ) × (held p.image a ≡ Some byte)
+abbrev pub CodeInImage : Assembled → Type 0
+CodeInImage p = (a : ℕ) → IsTrue (is_code p.statements a) → (byte : ℕ) × (held p.image a ≡ Some byte)
 
 -- an instruction begins at the entry
 abbrev pub EntryBegins : Assembled → Type 0
@@ -89,7 +89,7 @@ pub record IsSound (p : Assembled) : Type 0 where
   pub begins : StatementsBegin p
   pub apart : StatementsApart p
   pub in_ram : CodeInRam p
-  pub is_held : CodeIsHeld p
+  pub is_held : CodeInImage p
   pub enters : EntryBegins p
   pub outside : ImageInRam p
 

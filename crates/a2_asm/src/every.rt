@@ -5,10 +5,10 @@ ghost use Rattle.a2_syntax.specs.Texts.{fault_line};
 ghost use Rattle.a2_syntax.specs.declared.fault.Fault.{Fault};
 ghost use Rattle.a2_asm.specs.Layout.{names};
 ghost use Rattle.a2_asm.specs.Pass.{source_rows};
-ghost use Rattle.a2_asm.specs.Refusals.{first_behind, refuse_place};
+ghost use Rattle.a2_asm.specs.Refusals.{first_error_in_order, refuse_place};
 ghost use Rattle.a2_asm.specs.Entries.{entries};
 ghost use Rattle.a2_asm.specs.Every as every;
-ghost use Rattle.a2_asm.specs.Every.{AreLayoutRefusals};
+ghost use Rattle.a2_asm.specs.Every.{AreLayoutErrors};
 
 use crate::assembling::assemble;
 use crate::bytes::{are_known, line_bytes};
@@ -115,7 +115,7 @@ fn by_values<A: Allocator + Copy>(
 ) -> Result<Vec<Fault, A>, AllocError>
     requires few { length lines.now ≤ 4096 }
     requires places { places.now ≡ map (λ row. row.place) (source_rows lines.now) }
-    requires placed { first_behind (refuse_place (names (source_rows lines.now))) [] (source_rows lines.now) ≡ None }
+    requires placed { first_error_in_order (refuse_place (names (source_rows lines.now))) [] (source_rows lines.now) ≡ None }
     ensures { IfOk result (λ faults. faults.items ≡ every.by_values (entries known.now) (source_rows lines.now)) }
 {
     let mut faults = Vec::new(alloc);
@@ -129,12 +129,12 @@ fn by_values<A: Allocator + Copy>(
 }
 
 // Returns the error of each line that has one.
-fn each_refusal<A: Allocator + Copy>(
+fn error_of_each_line<A: Allocator + Copy>(
     alloc: A,
     lines: &[Line<A>],
 ) -> Result<Vec<Fault, A>, AllocError>
     requires { length lines.now ≤ 4096 }
-    ensures { IfOk result (λ faults. faults.items ≡ every.each_refusal lines.now (source_rows lines.now)) }
+    ensures { IfOk result (λ faults. faults.items ≡ every.error_of_each_line lines.now (source_rows lines.now)) }
 {
     match place(alloc, lines) {
         Ok((places, known)) => by_values(alloc, lines, places.as_slice(), &known),
@@ -180,13 +180,13 @@ pub fn refusals<A: Allocator + Copy>(
     alloc: A,
     source: &Source<A>,
 ) -> Result<Vec<Fault, A>, AllocError>
-    ensures { IfOk result (λ faults. AreLayoutRefusals source.now faults.items) }
+    ensures { IfOk result (λ faults. AreLayoutErrors source.now faults.items) }
 {
     let Err(fault) = assemble(alloc, source) else {
         return Ok(Vec::new(alloc));
     };
     let first = refused(fault)?;
     let lines = source.lines();
-    let told = each_refusal(alloc, lines)?;
+    let told = error_of_each_line(alloc, lines)?;
     first_and_others(alloc, first, told.as_slice())
 }

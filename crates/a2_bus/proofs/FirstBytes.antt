@@ -6,7 +6,7 @@ use Rattle.a2_page.specs.declared.Page.TheVariants.{One, Two}
 use Rattle.a2_page.specs.Cells.{Cell, cell_at, address_of}
 use Rattle.a2_page.specs.Grid.{byte_in}
 use Rattle.a2_page.proofs.Parts.{grid_of-byte}
-use Rattle.a2_page.proofs.Finding.{StandsAt, cell_at-stands}
+use Rattle.a2_page.proofs.Finding.{IsCellAtAddress, cell_at-stands}
 use Rattle.a2_bus.specs.Devices.{Devices}
 use Rattle.a2_bus.specs.Memory.{grid, ram_byte}
 use Rattle.a2_bus.specs.View.{memory_from}
@@ -24,7 +24,7 @@ ram_byte-from byte_at devices a = go (cell_at a) refl
 
     go : (found : Option Cell) → cell_at a ≡ found → byte_of (memory_from byte_at devices) a found ≡ byte_at a
     go (Some cell) is =
-        let stands : StandsAt a cell = cell_at-stands a cell is in
+        let stands : IsCellAtAddress a cell = cell_at-stands a cell is in
         in_page cell.page cell.row cell.column stands.row_ok stands.column_ok ∙ ap byte_at stands.address_is
     go None is = ap (λ f. elim f [ Some cell ↦ 0 | None ↦ byte_at a ]) is
 

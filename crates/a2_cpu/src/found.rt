@@ -14,7 +14,7 @@ use a2_bus::Bus;
 use a2_effect::Live;
 use a2_effect::modes::{
     Absolute, AbsoluteX, AbsoluteY, AtAddress, Bytes, IndexedIndirect, IndirectIndexed, Site,
-    ZeroPage, ZeroPageX, ZeroPageY, is_elsewhere,
+    ZeroPage, ZeroPageX, ZeroPageY, is_in_another_page,
 };
 use a2_opcode::{Mnemonic, Mode, branch_target, row_of};
 
@@ -74,20 +74,20 @@ fn crosses(base: u16, place: Place) -> bool
     ensures { result ≡ crosses_page base (place_for place) }
 {
     match place {
-        Place::Address(to) => is_elsewhere(base, to),
+        Place::Address(to) => is_in_another_page(base, to),
         Place::Nowhere | Place::Accumulator | Place::Literal(_) | Place::Pointer(_) => false,
     }
 }
 
 // What a mode examines on a bus: page 0, and the byte or the word after the opcode, already fetched.
 #[derive(Clone, Copy)]
-struct Shown<'a, B: Bus> {
+struct OperandBytes<'a, B: Bus> {
     bus: &'a B,
     byte: u8,
     word: u16,
 }
 
-impl<'a, B: Bus> Bytes for Shown<'a, B> {
+impl<'a, B: Bus> Bytes for OperandBytes<'a, B> {
     ghost Memory = { BusState };
 
     ghost access = { B.access };
@@ -130,7 +130,7 @@ fn at_address<P: AtAddress, B: Bus>(live: &Live, bus: &B, byte: u8, word: u16) -
     ensures { operand_for result
         ≡ Some (operand_of B.access (B.state bus.now) (live_registers live.now) P.mode (operand_with byte word live.now.pc P.mode)) }
 {
-    let Site { place, base } = P::find(live, &Shown { bus, byte, word });
+    let Site { place, base } = P::find(live, &OperandBytes { bus, byte, word });
     with_base(Place::Address(place), base)
 }
 

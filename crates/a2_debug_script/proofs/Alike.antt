@@ -10,7 +10,7 @@ use Rattle.a2_machine.specs.Start.{start_world}
 use Rattle.a2_page.specs.Picture as page
 use Rattle.a2_debug_script.specs.Worlds.{guarded_code, start, typed}
 use Rattle.a2_debug_script.specs.declared.Typed.{Typed}
-use Rattle.a2_debug_script.specs.Session.{Session, appended, advanced, stepped, gone}
+use Rattle.a2_debug_script.specs.Session.{Session, appended, advanced, stepped, stepped_to_break}
 use Rattle.a2_debug_script.specs.Stored.{Stored, keys_at, world_before_keys, world_with_keys, worlds_below, session_of, Moves}
 use Rattle.a2_debug_script.specs.Lines.{session_line, session_picture}
 use Rattle.a2_debug_script.specs.Laws.{LookAlike}
@@ -64,10 +64,10 @@ pub stepped-alike : (s t : Stored) (n : ℕ) → LookAlike s t → stepped s.pro
 stepped-alike s t n h =
     advanced-alike s.program t.program h.programs [] n (session_of s) ∙ ap (λ session. stepped t.program n session) (session-alike s t h)
 
-pub gone-alike : (s t : Stored) (n : ℕ) → LookAlike s t → gone s.program n (session_of s) ≡ gone t.program n (session_of t)
-gone-alike s t n h =
+pub stepped_to_break-alike : (s t : Stored) (n : ℕ) → LookAlike s t → stepped_to_break s.program n (session_of s) ≡ stepped_to_break t.program n (session_of t)
+stepped_to_break-alike s t n h =
     advanced-alike s.program t.program h.programs (session_of s).breaks n (session_of s)
-    ∙ ap (λ session. gone t.program n session) (session-alike s t h)
+    ∙ ap (λ session. stepped_to_break t.program n session) (session-alike s t h)
 
 pub line-alike : (s t : Stored) → LookAlike s t → session_line s ≡ session_line t
 line-alike s t h =

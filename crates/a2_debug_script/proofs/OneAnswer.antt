@@ -1,7 +1,7 @@
 -- On debuggers that look alike, each call has one answer, and each line has one answer or one error.
 use Rattle.std.proofs.Common.{◌≡◌, ◌⊎◌, ℕ, List, [], ◌∷◌, ◌++◌, length, map, drop, Result, Ok, Err, refl, sym, ap, ap₂, ◌∙◌, inl, inr, arith}
 use Rattle.a2_text.specs.Bytes.{capital}
-use Rattle.a2_text.specs.Words.{words, first_word, behind_word}
+use Rattle.a2_text.specs.Words.{words, first_word, after_first_word}
 use Rattle.a2_debug_script.specs.declared.fault.DebugFault.{DebugFault}
 use Rattle.a2_debug_script.specs.declared.fault.DebugFault.TheVariants as fault
 use Rattle.a2_debug_script.specs.declared.calls.Call.{Call}
@@ -14,11 +14,11 @@ use Rattle.a2_debug_script.specs.declared.Halt.{Halt}
 use Rattle.a2_debug_script.specs.Session.{Halted as End}
 use Rattle.a2_debug_script.specs.Stored.{Stored}
 use Rattle.a2_debug_script.specs.Marks.{marked, unmarked, at_place}
-use Rattle.a2_debug_script.specs.Calls.{CallDoes, MakesSteps, Sets, Run}
+use Rattle.a2_debug_script.specs.Calls.{CallDoes, ExecutesSteps, Sets, Run}
 use Rattle.a2_debug_script.specs.Lines.{verb_letters, halt_line}
-use Rattle.a2_debug_script.specs.Answers.{Says, SaysNone, IsAnswerText, IsCallAnswered, IsCallDone, IsVerb, IsDebugAnswer, IsLineRefused}
+use Rattle.a2_debug_script.specs.Answers.{MeansCall, MeansNoCall, IsAnswerText, IsCallAnswered, IsCallDone, IsVerb, IsDebugAnswer, IsLineRejected}
 use Rattle.a2_debug_script.specs.Laws.{LookAlike}
-use Rattle.a2_debug_script.proofs.Alike.{stepped-alike, gone-alike, line-alike, picture-alike, moves-alike, both-alike}
+use Rattle.a2_debug_script.proofs.Alike.{stepped-alike, stepped_to_break-alike, line-alike, picture-alike, moves-alike, both-alike}
 use Rattle.a2_debug_script.proofs.Total.{spells_only, verb-one}
 
 -- Calls
@@ -32,7 +32,7 @@ refused-one : (old other new next : Stored) (why reason told : DebugFault) → L
 refused-one old other new next why reason told like (a, kept) (b, left) = (ap (λ f. Refused f) (a ∙ sym b), both-alike new next old other kept left like)
 
 steps-one : (old other new next : Stored) (n : ℕ) (end final : End) (a b : Answer) → LookAlike old other → end ≡ final
-    → MakesSteps old n end a new → MakesSteps other n final b next → One a b new next
+    → ExecutesSteps old n end a new → ExecutesSteps other n final b next → One a b new next
 steps-one old other new next n end final (Refused why) (Refused reason) like same h k =
     refused-one old other new next why reason fault.Steps like (h.1, h.2) (k.1, k.2)
 steps-one old other new next n end final (Halted halt) (Halted stop) like same h k = (
@@ -78,7 +78,7 @@ sets-one old other new next (Err why) a b like h k = (h.0 ∙ sym k.0, both-alik
 pub does-one : (old other new next : Stored) (c : Call) (a b : Answer) → LookAlike old other
     → CallDoes old c a new → CallDoes other c b next → One a b new next
 does-one old other new next (call.Step n) a b like h k = steps-one old other new next n _ _ a b like (stepped-alike old other n like) h k
-does-one old other new next (call.Go n) a b like h k = steps-one old other new next n _ _ a b like (gone-alike old other n like) h k
+does-one old other new next (call.Go n) a b like h k = steps-one old other new next n _ _ a b like (stepped_to_break-alike old other n like) h k
 does-one old other new next (call.TypeKeys keys) a b like h k = typed-one old other new next keys a b like h k
 does-one old other new next (call.Back n) a b like h k = back-one old other new next n a b like h k
 does-one old other new next (call.SetBreak word) a b like h k =
@@ -110,7 +110,7 @@ unfolding plain
 does-plain old (call.Step n) answer new h = h
 does-plain old _ answer new h = h
 
-call-one : (verb : Verb) (rest : List ℕ) (c d : Call) → Says verb rest c → Says verb rest d → plain c ≡ plain d
+call-one : (verb : Verb) (rest : List ℕ) (c d : Call) → MeansCall verb rest c → MeansCall verb rest d → plain c ≡ plain d
 unfolding plain
 call-one Step rest (call.Step n) (call.Step m) h k = cc
 call-one Step rest (call.Step n) d h k = absurd k
@@ -126,7 +126,7 @@ call-one TypeKeys rest (call.TypeKeys keys) (call.TypeKeys others) h k = ap (λ 
 call-one TypeKeys rest (call.TypeKeys keys) d h k = absurd k
 call-one verb rest c d h k = absurd h
 
-screen_says : (line : List ℕ) (verb : Verb) (rest : List ℕ) (c : Call) → Says verb rest c → IsVerb line verb → IsVerb line Screen → ⊥
+screen_says : (line : List ℕ) (verb : Verb) (rest : List ℕ) (c : Call) → MeansCall verb rest c → IsVerb line verb → IsVerb line Screen → ⊥
 screen_says line verb rest c h is screen = rw (verb-one line verb Screen is screen) at h
 
 -- a blank line does not begin with a verb
@@ -145,7 +145,7 @@ text-one verb (Refused why) new next text words like h k = absurd h
 
 -- a verb and the text after it have only one result
 said-one : (verb : Verb) (rest : List ℕ) (old other new next : Stored) (c d : Call) (a b : Answer) → LookAlike old other
-    → Says verb rest c → Says verb rest d → CallDoes old c a new → CallDoes other d b next → One a b new next
+    → MeansCall verb rest c → MeansCall verb rest d → CallDoes old c a new → CallDoes other d b next → One a b new next
 said-one verb rest old other new next c d a b like says said does did =
     does-one old other new next (plain d) a b like (rw (call-one verb rest c d says said) at (does-plain old c a new does)) (does-plain other d b next did)
 
@@ -169,10 +169,10 @@ one-answer line text words old other new next like (inr (inr (verb, is, a))) (in
 one-answer line text words old other new next like (inr (inr (verb, is, a))) (inr (inl b)) =
     absurd (screen_says line verb _ a.called.0 a.called.1 is b.0)
 one-answer line text words old other new next like (inr (inr (verb, is, a))) (inr (inr (verb', is', b))) =
-    done-one verb' (behind_word line) text words old other new next like (rw (verb-one line verb verb' is is') at a) b
+    done-one verb' (after_first_word line) text words old other new next like (rw (verb-one line verb verb' is is') at a) b
 
 abbrev Refuses : Verb → List ℕ → Stored → DebugFault → Type 0
-Refuses verb rest old why = (SaysNone verb rest × (why ≡ fault.Syntax)) ⊎ IsCallAnswered verb rest old (Refused why) old
+Refuses verb rest old why = (MeansNoCall verb rest × (why ≡ fault.Syntax)) ⊎ IsCallAnswered verb rest old (Refused why) old
 
 done_unrefused : (verb : Verb) (rest text : List ℕ) (old other new : Stored) (why : DebugFault) → LookAlike old other
     → IsCallDone verb rest old text new → Refuses verb rest other why → ⊥
@@ -181,7 +181,7 @@ done_unrefused verb rest text old other new why like a (inr (c, says, does)) =
     let one = said-one verb rest old other new other a.called.0 c a.answer (Refused why) like a.called.1 says a.called.2 does in rw one.0 at a.spelt
 
 pub never-both : (line text : List ℕ) (old other new : Stored) (why : DebugFault) → LookAlike old other
-    → IsDebugAnswer line old text new → IsLineRefused line other why → ⊥
+    → IsDebugAnswer line old text new → IsLineRejected line other why → ⊥
 never-both line text old other new why like (inl a) (inl b) = b.0 a.0
 never-both line text old other new why like (inl a) (inr (inl b)) = blank_none line Screen a.0 b.0
 never-both line text old other new why like (inl a) (inr (inr (verb, some, is, b))) = blank_none line verb a.0 is
@@ -192,7 +192,7 @@ never-both line text old other new why like (inr (inr (verb, is, a))) (inl b) = 
 never-both line text old other new why like (inr (inr (verb, is, a))) (inr (inl b)) =
     screen_says line verb _ a.called.0 a.called.1 is b.0
 never-both line text old other new why like (inr (inr (verb, is, a))) (inr (inr (verb', some, is', b))) =
-    done_unrefused verb' (behind_word line) text old other new why like (rw (verb-one line verb verb' is is') at a) b.cause
+    done_unrefused verb' (after_first_word line) text old other new why like (rw (verb-one line verb verb' is is') at a) b.cause
 
 refusal-one : (verb : Verb) (rest : List ℕ) (old other : Stored) (why reason : DebugFault) → LookAlike old other
     → Refuses verb rest old why → Refuses verb rest other reason → why ≡ reason
@@ -205,7 +205,7 @@ refusal-one verb rest old other why reason like (inr (c, says, does)) (inr (d, s
     cc
 
 pub one-refusal : (line : List ℕ) (old other : Stored) (why reason : DebugFault) → LookAlike old other
-    → IsLineRefused line old why → IsLineRefused line other reason → why ≡ reason
+    → IsLineRejected line old why → IsLineRejected line other reason → why ≡ reason
 one-refusal line old other why reason like (inl a) (inl b) = a.2 ∙ sym b.2
 one-refusal line old other why reason like (inl a) (inr (inl b)) = a.2 ∙ sym b.2
 one-refusal line old other why reason like (inl a) (inr (inr (verb, some, is, b))) = absurd (a.1 verb is)
@@ -215,4 +215,4 @@ one-refusal line old other why reason like (inr (inl a)) (inr (inr (verb, some, 
 one-refusal line old other why reason like (inr (inr (verb, some, is, a))) (inl b) = absurd (b.1 verb is)
 one-refusal line old other why reason like (inr (inr (verb, some, is, a))) (inr (inl b)) = absurd (some (verb-one line verb Screen is b.0))
 one-refusal line old other why reason like (inr (inr (verb, some, is, a))) (inr (inr (verb', some', is', b))) =
-    refusal-one verb' (behind_word line) old other why reason like (rw (verb-one line verb verb' is is') at a).cause b.cause
+    refusal-one verb' (after_first_word line) old other why reason like (rw (verb-one line verb verb' is is') at a).cause b.cause

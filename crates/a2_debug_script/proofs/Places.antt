@@ -11,8 +11,8 @@ use Rattle.a2_machine.specs.State.{MachineState}
 use Rattle.a2_debug_script.specs.declared.Typed.{Typed}
 use Rattle.a2_debug_script.specs.Held.{unguarded}
 use Rattle.a2_debug_script.specs.Kept.{kept_at}
-use Rattle.a2_debug_script.specs.Session.{raised}
-use Rattle.a2_debug_script.specs.Stored.{world_before_keys, world_with_keys, typed_at, up_to, IsAt, IsCopyAt, NoneAbove, NoneBelow, AllUnder, Spaced, AreCheckpoints}
+use Rattle.a2_debug_script.specs.Session.{oldest_after}
+use Rattle.a2_debug_script.specs.Stored.{world_before_keys, world_with_keys, typed_at, up_to, IsAt, IsCopyAt, NoneAbove, NoneBelow, AllBelow, Spaced, AreCheckpoints}
 use Rattle.a2_debug_script.proofs.Keys.{keys_at-not_yet, keys_at-up_to, keys_at-front}
 use Rattle.a2_debug_script.proofs.Worlds.{before-same, fresh_before}
 use Rattle.a2_debug_script.proofs.Steps.{at_same, at_unguarded, at_guarded}
@@ -20,7 +20,7 @@ use Rattle.a2_debug_script.proofs.Steps.{at_same, at_unguarded, at_guarded}
 -- a checkpoint is due, or none is
 due : (n m oldest many : ℕ) → n ≤ m → m ≤ 1024 * (n / 1024) + 1024 → oldest + 1024 * many ≡ 1024 * (n / 1024) + 1024 → many ≤ 8
     → (((nat_lt n m && (m % 1024 == 0)) ≡ true) × (m ≡ oldest + 1024 * many))
-    ⊎ (((nat_lt n m && (m % 1024 == 0)) ≡ false) × (oldest ≡ raised oldest m) × (m / 1024 ≡ n / 1024))
+    ⊎ (((nat_lt n m && (m % 1024 == 0)) ≡ false) × (oldest ≡ oldest_after oldest m) × (m / 1024 ≡ n / 1024))
 due n m oldest many ahead near places eight = grind (arith, nat_tests)
 
 module _ (program : Assembled) (log : List Typed) (n oldest : ℕ) (held : List MachineState) (c : AreCheckpoints program log n oldest held) where
@@ -64,22 +64,22 @@ module _ (program : Assembled) (log : List Typed) (n oldest : ℕ) (held : List 
 
   -- after steps up to the next place for a checkpoint
   pub places_run : (m : ℕ) (state : MachineState) → n ≤ m → m ≤ 1024 * (n / 1024) + 1024 → NoneAbove n log
-      → IsAt program (world_with_keys program log m) m state → AreCheckpoints program log m (raised oldest m) (kept_at n m held (unguarded state))
+      → IsAt program (world_with_keys program log m) m state → AreCheckpoints program log m (oldest_after oldest m) (kept_at n m held (unguarded state))
   places_run m state ahead near past at = go (due n m oldest (length held) ahead near c.places c.eight)
     where
       many : length (held ++ unguarded state ∷ []) ≡ length held + 1
       many = length-append held (unguarded state ∷ [])
 
       go : (((nat_lt n m && (m % 1024 == 0)) ≡ true) × (m ≡ oldest + 1024 * length held))
-          ⊎ (((nat_lt n m && (m % 1024 == 0)) ≡ false) × (oldest ≡ raised oldest m) × (m / 1024 ≡ n / 1024))
-          → AreCheckpoints program log m (raised oldest m) (kept_at n m held (unguarded state))
+          ⊎ (((nat_lt n m && (m % 1024 == 0)) ≡ false) × (oldest ≡ oldest_after oldest m) × (m / 1024 ≡ n / 1024))
+          → AreCheckpoints program log m (oldest_after oldest m) (kept_at n m held (unguarded state))
       go (inl (e, at_m)) =
           let copy : IsCopyAt program log m (unguarded state) = at_unguarded (at_same at (fresh_before program log m (omega (arith, past, at_m, c.places))) refl) in
           let drops = length-drop (length held - 7) (held ++ unguarded state ∷ []) in
           let j : length (held ++ unguarded state ∷ []) - 8 ≡ length held - 7 = omega (arith, many) in
           rw (e, j) (record {
             spaced = λ k d l.
-                (let place : oldest + 1024 * (length held - 7 + k) ≡ raised oldest m + 1024 * k = omega (arith, at_m, c.eight) in
+                (let place : oldest + 1024 * (length held - 7 + k) ≡ oldest_after oldest m + 1024 * k = omega (arith, at_m, c.eight) in
                 rw (get_or-drop, sym place) (pushed (unguarded state) (rw at_m at copy) _ d (omega (arith, l, drops))));
             some = omega (arith, many, drops);
             eight = omega (arith, many, drops, c.eight);
@@ -97,7 +97,7 @@ brought_back c m left state le above is last guarded =
 
 -- a machine before the keys of its count, and a log whose later keys are left out
 pub at_front : (program : Assembled) (log : List Typed) (k n : ℕ) (state : MachineState) → IsAt program (world_before_keys program log n) n state
-    → AllUnder n (take k log) → NoneBelow n (drop k log) → IsAt program (world_with_keys program (take k log) n) n state
+    → AllBelow n (take k log) → NoneBelow n (drop k log) → IsAt program (world_with_keys program (take k log) n) n state
 at_front program log k n state at under later =
     at_same at (before-same program log (take k log) n (λ i l. sym (keys_at-front log k i (omega (arith, later, l))))
     ∙ sym (fresh_before program (take k log) n (omega (arith, under)))) refl

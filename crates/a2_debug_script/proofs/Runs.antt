@@ -16,10 +16,10 @@ use Rattle.a2_debug_script.specs.declared.Typed.{Typed}
 use Rattle.a2_debug_script.specs.declared.Halt.{Halt}
 use Rattle.a2_debug_script.specs.declared.Halt.TheVariants.{Stopped, Break}
 use Rattle.a2_debug_script.specs.declared.calls.Answer.TheVariants.{Halted}
-use Rattle.a2_debug_script.specs.Calls.{MakesSteps}
-use Rattle.a2_debug_script.specs.Session.{Session, appended, advanced, raised}
+use Rattle.a2_debug_script.specs.Calls.{ExecutesSteps}
+use Rattle.a2_debug_script.specs.Session.{Session, appended, advanced, oldest_after}
 use Rattle.a2_debug_script.specs.Session.{Halted as End}
-use Rattle.a2_debug_script.specs.Stored.{Stored, world_with_keys, session_of, laid_by, IsAt, AreCheckpoints, AreLogged, IsKept, Moves, NoneAbove, NoneBelow, NoneStuck}
+use Rattle.a2_debug_script.specs.Stored.{Stored, world_with_keys, session_of, byte_of_program, IsAt, AreCheckpoints, AreLogged, IsKept, Moves, NoneAbove, NoneBelow, NoneStuck}
 use Rattle.a2_debug_script.specs.Held.{unguarded}
 use Rattle.a2_debug_script.specs.Kept.{kept_at}
 use Rattle.a2_debug_script.specs.declared.debugger.Breaks.{Breaks}
@@ -34,13 +34,13 @@ use Rattle.a2_debug_script.proofs.GoingOn.{ends, over, to_mark, stops_stuck, sto
 module _ (program : Assembled) (log : List Typed) (n : ℕ) (state : MachineState) (at : IsAt program (world_with_keys program log n) n state)
     (past : NoneAbove n log) where
   told : (k : ℕ) → run.world_at (code_of state) (world_of_state state) k ≡ world_with_keys program log (n + k)
-      → HoldsCode (guard_of_program program).code (laid_by program) (world_with_keys program log (n + k)).memory
+      → HoldsCode (guard_of_program program).code (byte_of_program program) (world_with_keys program log (n + k)).memory
       → stuck (code_of state) (run.world_at (code_of state) (world_of_state state) k) ≡ stuck (guarded_code program) (world_with_keys program log (n + k))
   told k same code = rw (same, at.guarded) (same_stuck program at.sound _ code)
 
   pub along : (k : ℕ) → ((i : ℕ) → i < k → stuck (code_of state) (run.world_at (code_of state) (world_of_state state) i) ≡ None)
       → (run.world_at (code_of state) (world_of_state state) k ≡ world_with_keys program log (n + k))
-      × HoldsCode (guard_of_program program).code (laid_by program) (world_with_keys program log (n + k)).memory
+      × HoldsCode (guard_of_program program).code (byte_of_program program) (world_with_keys program log (n + k)).memory
   unfolding run.world_at
   along zero free = rw add-zero (at.holds, at.code)
   along (suc k) free =
@@ -143,7 +143,7 @@ module _ {program : Assembled} {log : List Typed} {n oldest : ℕ} {marks : List
         few = omega (arith, steps_are.1, r.ahead, r.few);
       })
 
-  pub places_kept : (m : ℕ) → m ≡ new.state.steps → AreCheckpoints program log m (raised oldest m) (kept_at n m r.held (unguarded new.state))
+  pub places_kept : (m : ℕ) → m ≡ new.state.steps → AreCheckpoints program log m (oldest_after oldest m) (kept_at n m r.held (unguarded new.state))
   places_kept m e =
       let there : m ≡ n + count = omega (arith, e, steps_are.0) in
       places_run program log n oldest r.held r.places m new.state (omega arith) (omega (arith, steps_are.1, r.near, r.ahead)) r.kept.logged.past (kept_run m e).current
@@ -213,13 +213,13 @@ module _ (s : Stored) {marks : List ℕ} {to : ℕ} {old new : Device} {why : St
       (λ i l. off r i (omega (arith, l))) (at_end r (count r - 1) last ∙ ap (λ w. is_at_breakpoint (Some w)) e)))
 
   pub runs_are : (m others : ℕ) → m ≡ new.state.steps → s.made ≡ old.made + others
-      → RunsToCount marks to s (record s { count = m; oldest = raised s.oldest m; made = new.made + others }) (halt_by why)
+      → RunsToCount marks to s (record s { count = m; oldest = oldest_after s.oldest m; made = new.made + others }) (halt_by why)
   unfolding session_of
   runs_are m others e total =
       let there : m ≡ s.count + count r = omega (arith, e, steps_are r) in
-      let high : raised s.oldest s.count ≡ s.oldest = omega (arith, r.places.places, r.places.eight) in
+      let high : oldest_after s.oldest s.count ≡ s.oldest = omega (arith, r.places.places, r.places.eight) in
       let start : walk s 0 ≡ session_of s = rw (add-zero, high) in
-      let end : walk s (count r) ≡ session_of (record s { count = m; oldest = raised s.oldest m; made = new.made + others }) = rw there in
+      let end : walk s (count r) ≡ session_of (record s { count = m; oldest = oldest_after s.oldest m; made = new.made + others }) = rw there in
       record {
         moves = record {
           program = refl;
@@ -262,7 +262,7 @@ module _ {breaks : Breaks} {n to : ℕ} {old mid new : Stored} {halt : Halt} (wa
       }
 
   pub ends_here : (halt ≡ Break) ⊎ (new.count < to) ⊎ (old.count + n - to ≡ 0) → old.count + n ≤ 100_000_000
-      → MakesSteps old n (advanced old.program (heeded breaks old.breaks) n (session_of old)) (Halted halt) new
+      → ExecutesSteps old n (advanced old.program (heeded breaks old.breaks) n (session_of old)) (Halted halt) new
   ends_here so few =
       let end : advanced old.program (heeded breaks old.breaks) n (session_of old) ≡ halted new halt = sym way.rest ∙ rw left (ran.ended (old.count + n - to) so) in
       (few, ap (λ (e : End). e.session) (sym end), ap (λ (e : End). e.halt) (sym end), moved)

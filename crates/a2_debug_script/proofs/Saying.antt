@@ -8,7 +8,7 @@ use Rattle.a2_debug_script.specs.declared.commands.Verb.{Verb}
 use Rattle.a2_debug_script.specs.declared.commands.Verb.TheVariants.{Step, Go, Back, Break, Clear, TypeKeys, Screen}
 use Rattle.a2_debug_script.specs.Lines.{only_number}
 use Rattle.a2_debug_script.specs.Stored.{Stored}
-use Rattle.a2_debug_script.specs.Answers.{Says, done_text}
+use Rattle.a2_debug_script.specs.Answers.{MeansCall, done_text}
 
 -- what a verb needs is missing
 abbrev pub Lacks : Verb → List ℕ → Type 0
@@ -20,7 +20,7 @@ Lacks Clear rest = only_word (words rest) ≡ None
 Lacks TypeKeys rest = 0 < length rest → (keys : List ℕ) → SpellsKeys (drop 1 rest) keys → 4096 < length keys
 Lacks Screen rest = Unit {0}
 
-pub lacking : (verb : Verb) (rest : List ℕ) → Lacks verb rest → (c : Call) → Says verb rest c → ⊥
+pub lacking : (verb : Verb) (rest : List ℕ) → Lacks verb rest → (c : Call) → MeansCall verb rest c → ⊥
 lacking Step rest none (call.Step n) h = cc
 lacking Go rest none (call.Go n) h = cc
 lacking Back rest none (call.Back n) h = cc

@@ -13,8 +13,8 @@ use Rattle.a2_machine.specs.Start.{start_world}
 use Rattle.a2_machine.specs.State.{MachineState, Device, world_of_state}
 use Rattle.a2_debug_script.specs.Worlds.{start}
 use Rattle.a2_debug_script.specs.declared.Typed.{Typed}
-use Rattle.a2_debug_script.specs.Session.{fresh, appended, with_keys, backed, raised}
-use Rattle.a2_debug_script.specs.Stored.{Stored, world_before_keys, world_with_keys, worlds_below, session_of, begun, typed_at, up_to, IsAt, AreLogged, IsKept, NoneAbove}
+use Rattle.a2_debug_script.specs.Session.{start_session, appended, with_keys, stepped_back, oldest_after}
+use Rattle.a2_debug_script.specs.Stored.{Stored, world_before_keys, world_with_keys, worlds_below, session_of, debugger_at_start, typed_at, up_to, IsAt, AreLogged, IsKept, NoneAbove}
 use Rattle.a2_debug_script.proofs.Keys.{keys_at-up_to, keys_at-not_yet, NoneAbove-up_to, InOrder-up_to, InOrder-typed, typed_then}
 use Rattle.a2_debug_script.proofs.Worlds.{typed-nil, world_at-same, worlds_below-same, world_at-more, length-worlds_below, world_at-typed, worlds_below-typed}
 
@@ -39,15 +39,15 @@ breaks_are s = refl
 -- stepping forwards
 
 abbrev pub at_count : Stored → ℕ → Stored
-at_count s n = record s { count = n; oldest = raised s.oldest n }
+at_count s n = record s { count = n; oldest = oldest_after s.oldest n }
 
-pub session_next : (s : Stored) (n oldest oldest' made made' : ℕ) → NoneAbove s.count s.log → s.count ≤ n → oldest' ≡ raised oldest (n + 1)
+pub session_next : (s : Stored) (n oldest oldest' made made' : ℕ) → NoneAbove s.count s.log → s.count ≤ n → oldest' ≡ oldest_after oldest (n + 1)
     → session_of (record s { count = n + 1; oldest = oldest'; made = made' })
     ≡ appended s.program (session_of (record s { count = n; oldest = oldest; made = made }))
 unfolding session_of appended worlds_below
 session_next s n oldest oldest' made made' past ahead raise =
     let last = world_at-more s.program s.log n (omega arith) in
-    let olds : oldest' ≡ raised oldest (length (worlds_below s.program s.log n) + 1) = rw length-worlds_below raise in
+    let olds : oldest' ≡ oldest_after oldest (length (worlds_below s.program s.log n) + 1) = rw length-worlds_below raise in
     let earlier : worlds_below s.program s.log (n + 1) ≡ world_with_keys s.program s.log n ∷ worlds_below s.program s.log n = rw add-one in
     λ i. record { last = last i; earlier = earlier i; breaks = s.breaks; oldest = olds i }
 
@@ -70,14 +70,14 @@ logged_typed program log n keys old fits codes = record {
 -- going back
 
 backed_is : (program : Assembled) (log : List Typed) (breaks : List ℕ) (oldest n m : ℕ)
-    → backed n (record { last = world_with_keys program log (m + n); earlier = worlds_below program log (m + n); breaks = breaks; oldest = oldest })
+    → stepped_back n (record { last = world_with_keys program log (m + n); earlier = worlds_below program log (m + n); breaks = breaks; oldest = oldest })
     ≡ record { last = world_with_keys program log m; earlier = worlds_below program log m; breaks = breaks; oldest = oldest }
-unfolding backed worlds_below
+unfolding stepped_back worlds_below
 backed_is program log breaks oldest zero m = rw add-zero
 backed_is program log breaks oldest (suc n) m = rw add-suc (backed_is program log breaks oldest n m)
 
 pub session_back : (s : Stored) (n m reruns made : ℕ) → s.count ≡ m + n
-    → session_of (record s { count = m; log = up_to m s.log; reruns = reruns; made = made }) ≡ backed n (session_of s)
+    → session_of (record s { count = m; log = up_to m s.log; reruns = reruns; made = made }) ≡ stepped_back n (session_of s)
 unfolding session_of
 session_back s n m reruns made e =
     let same = λ (i : ℕ) (l : i ≤ m). keys_at-up_to s.log m i l in
@@ -117,6 +117,6 @@ kept_start program state at = record {
   few = omega arith;
 }
 
-pub session_start : (program : Assembled) (made : ℕ) → session_of (begun program made) ≡ fresh program
+pub session_start : (program : Assembled) (made : ℕ) → session_of (debugger_at_start program made) ≡ start_session program
 unfolding session_of worlds_below
 session_start program made = rw (world_at-start program)

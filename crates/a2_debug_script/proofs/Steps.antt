@@ -18,13 +18,13 @@ use Rattle.a2_machine.specs.State.{MachineState, Device, world_of_state}
 use Rattle.a2_debug_script.specs.Worlds.{guarded_code, typed}
 use Rattle.a2_debug_script.specs.declared.Typed.{Typed}
 use Rattle.a2_debug_script.specs.Held.{unguarded}
-use Rattle.a2_debug_script.specs.Stored.{IsAt, under_guard, laid_by, world_with_keys, typed_at, NoneBelow, NoneStuck}
+use Rattle.a2_debug_script.specs.Stored.{IsAt, under_guard, byte_of_program, world_with_keys, typed_at, NoneBelow, NoneStuck}
 use Rattle.a2_debug_script.proofs.Keys.{keys_at-front}
 use Rattle.a2_debug_script.proofs.Worlds.{world_at-same, world_at-typed, length-world_at}
 
 -- wherever memory holds the program's code, its bytes mean the same as its statements
 module _ (program : Assembled) (sound : IsSound program) (world : World)
-    (holds : HoldsCode (guard_of_program program).code (laid_by program) world.memory) where
+    (holds : HoldsCode (guard_of_program program).code (byte_of_program program) world.memory) where
   alike : found_at_pc (bytes (Some (guard_of_program program))) world ≡ found_at_pc (guarded_code program) world
   unfolding guarded_code
   alike = sym (same-code program sound world.memory holds world.registers.pc)
@@ -37,9 +37,9 @@ module _ (program : Assembled) (sound : IsSound program) (world : World)
   same_next = next-alike _ _ world alike
 
   pub next_holds : stuck (guarded_code program) world ≡ None
-      → HoldsCode (guard_of_program program).code (laid_by program) (next (guarded_code program) world).memory
+      → HoldsCode (guard_of_program program).code (byte_of_program program) (next (guarded_code program) world).memory
   unfolding guarded_code statements
-  next_holds free = next-keeps_code (guarded_code program) (laid_by program) world holds free
+  next_holds free = next-keeps_code (guarded_code program) (byte_of_program program) world holds free
 
 -- a machine that holds a world holds any equal world
 pub at_same : {program : Assembled} {v w : World} {m n : ℕ} {state : MachineState} → IsAt program v m state → v ≡ w → m ≡ n → IsAt program w n state

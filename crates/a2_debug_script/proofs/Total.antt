@@ -5,7 +5,7 @@ use Rattle.std.proofs.lemmas.Bool.{false≢true}
 use Rattle.std.proofs.lemmas.List.Elements.{All-append}
 use Rattle.std.proofs.lemmas.Slice.Eq.{bytes_eq-Decides}
 use Rattle.a2_text.specs.Bytes.{capital}
-use Rattle.a2_text.specs.Words.{words, first_word, behind_word, only_word}
+use Rattle.a2_text.specs.Words.{words, first_word, after_first_word, only_word}
 use Rattle.a2_asm.specs.Values.{Names}
 use Rattle.a2_bus.specs.KeyText.{escaped, BeginsWith, SpellsKeys}
 use Rattle.a2_bus.proofs.KeyReading.{begins_only, empty_begins}
@@ -17,12 +17,12 @@ use Rattle.a2_debug_script.specs.declared.calls.Answer.{Answer}
 use Rattle.a2_debug_script.specs.declared.calls.Answer.TheVariants.{Halted, Done, Refused}
 use Rattle.a2_debug_script.specs.declared.commands.Verb.{Verb}
 use Rattle.a2_debug_script.specs.declared.commands.Verb.TheVariants.{Step, Go, Back, Break, Clear, TypeKeys, Screen}
-use Rattle.a2_debug_script.specs.Session.{Halted as End, advanced, appended, raised}
+use Rattle.a2_debug_script.specs.Session.{Halted as End, advanced, appended, oldest_after}
 use Rattle.a2_debug_script.specs.Stored.{Stored, session_of, typed_at, up_to, NoneAbove}
 use Rattle.a2_debug_script.specs.Marks.{word_address, marked, unmarked, at_place}
-use Rattle.a2_debug_script.specs.Calls.{CallDoes, MakesSteps, Sets, Run}
+use Rattle.a2_debug_script.specs.Calls.{CallDoes, ExecutesSteps, Sets, Run}
 use Rattle.a2_debug_script.specs.Lines.{verb_letters, only_number, session_line, halt_line, session_picture}
-use Rattle.a2_debug_script.specs.Answers.{Says, SaysNone, done_text, IsVerb, IsDebugAnswer, IsLineRefused}
+use Rattle.a2_debug_script.specs.Answers.{MeansCall, MeansNoCall, done_text, IsVerb, IsDebugAnswer, IsLineRejected}
 use Rattle.a2_debug_script.proofs.Keys.{NoneAbove-up_to, typed_then}
 use Rattle.a2_debug_script.proofs.Sessions.{session_next, session_typed, session_back}
 use Rattle.a2_debug_script.proofs.GoingOn.{reached}
@@ -38,7 +38,7 @@ Outcome does = (answer : Answer) × (new : Stored) × does answer new
 -- the lowest count to return to, after this many steps
 olds : Stored → ℕ → ℕ
 olds s zero = s.oldest
-olds s (suc k) = raised s.oldest (s.count + suc k)
+olds s (suc k) = oldest_after s.oldest (s.count + suc k)
 
 after : Stored → ℕ → Stored
 after s k = record s { count = s.count + k; oldest = olds s k; made = s.made + k }
@@ -47,7 +47,7 @@ after_next : (s : Stored) → NoneAbove s.count s.log → (k : ℕ) → session_
 unfolding after olds
 after_next s past k = rw (add-suc, ← add-one) (session_next s (s.count + k) _ _ _ _ past (omega arith) (raise k))
   where
-    raise : (k : ℕ) → raised s.oldest (s.count + k + 1) ≡ raised (olds s k) (s.count + k + 1)
+    raise : (k : ℕ) → oldest_after s.oldest (s.count + k + 1) ≡ oldest_after (olds s k) (s.count + k + 1)
     raise zero = omega arith
     raise (suc k) = omega arith
 
@@ -55,11 +55,11 @@ either : (m n : ℕ) → (m ≤ n) ⊎ (n < m)
 either m n = grind arith
 
 steps_made : (marks : List ℕ) (n : ℕ) (old : Stored) → NoneAbove old.count old.log
-    → Outcome (MakesSteps old n (advanced old.program marks n (session_of old)))
+    → Outcome (ExecutesSteps old n (advanced old.program marks n (session_of old)))
 unfolding after olds session_of
 steps_made marks n old past = go (either (old.count + n) 100_000_000)
   where
-    go : (old.count + n ≤ 100_000_000) ⊎ (100_000_000 < old.count + n) → Outcome (MakesSteps old n (advanced old.program marks n (session_of old)))
+    go : (old.count + n ≤ 100_000_000) ⊎ (100_000_000 < old.count + n) → Outcome (ExecutesSteps old n (advanced old.program marks n (session_of old)))
     go (inl low) =
         let (k, le, is) = reached old.program marks (λ k. session_of (after old k)) (after_next old past) n 0 in
         let start : session_of (after old 0) ≡ session_of old = rw add-zero in (
@@ -137,13 +137,13 @@ no_spelling c cs plain escape = inr go
 
 -- a text by its first character, if the rest spells keys, and so does the text after the letter that follows \\
 spelt_by : (c : ℕ) (cs : List ℕ) → Spelt cs → ((l : ℕ) (ls : List ℕ) → cs ≡ l ∷ ls → Spelt ls) → Spelt (c ∷ cs)
-spelt_by c cs rest behind = go split
+spelt_by c cs rest following = go split
   where
     split : ((0x20 ≤ c) × (c ≤ 0x7E) × (c ≢ 0x5C)) ⊎ (c ≡ 0x5C) ⊎ ((0x20 ≤ c → c ≤ 0x7E → ⊥) × (c ≢ 0x5C))
     split = grind arith
 
     letter : (l : ℕ) (ls : List ℕ) → cs ≡ l ∷ ls → c ≡ 0x5C → (o : Option ℕ) → escaped l ≡ o → Spelt (c ∷ cs)
-    letter l ls e slash (Some key) is = rw e (spelt_on (c ∷ l ∷ ls) ls key (c ∷ l ∷ [], refl, (slash, is)) (behind l ls e))
+    letter l ls e slash (Some key) is = rw e (spelt_on (c ∷ l ∷ ls) ls key (c ∷ l ∷ [], refl, (slash, is)) (following l ls e))
     letter l ls e slash None is = no_spelling c cs (λ low high other. other slash) (λ m key ms f s found. (let same : l ≡ m = cc in let bad : None ≡ Some key = cc in cc))
 
     escape : (ds : List ℕ) → cs ≡ ds → c ≡ 0x5C → Spelt (c ∷ cs)
@@ -190,7 +190,7 @@ verb_in word = go (bytes_eq (verb_letters (by_letter word)) word) (bytes_eq-Deci
     go false is = inr (λ verb e. (let same : by_letter word ≡ verb = ap by_letter (sym e) ∙ spelled verb in false≢true (is.1 (ap verb_letters same ∙ e))))
 
 abbrev Asked : Verb → List ℕ → Type 0
-Asked verb rest = ((c : Call) × Says verb rest c) ⊎ SaysNone verb rest
+Asked verb rest = ((c : Call) × MeansCall verb rest c) ⊎ MeansNoCall verb rest
 
 by_option : {X Y : Type 0} (o : Option X) → ((x : X) → o ≡ Some x → Y) → (o ≡ None → Y) → Y
 by_option (Some x) some none = some x refl
@@ -217,13 +217,13 @@ asked Screen rest = inr (λ c says. says)
 -- Lines
 
 abbrev pub Met : List ℕ → Stored → Type 0
-Met line old = ((text : List ℕ) × (new : Stored) × IsDebugAnswer line old text new) ⊎ ((why : DebugFault) × IsLineRefused line old why)
+Met line old = ((text : List ℕ) × (new : Stored) × IsDebugAnswer line old text new) ⊎ ((why : DebugFault) × IsLineRejected line old why)
 
 -- each line has an answer or an error
 pub met : (line : List ℕ) (old : Stored) → NoneAbove old.count old.log → Met line old
 met line old past = go (first_word line) refl
   where
-    done : (verb : Verb) → verb ≢ Screen → IsVerb line verb → (c : Call) → Says verb (behind_word line) c
+    done : (verb : Verb) → verb ≢ Screen → IsVerb line verb → (c : Call) → MeansCall verb (after_first_word line) c
         → (answer : Answer) (new : Stored) → CallDoes old c answer new → Met line old
     done verb other is c says (Halted halt) new does =
         inl (session_line new ++ halt_line halt, new, inr (inr (verb, is, record { answer = Halted halt; called = (c, says, does); spelt = refl })))
@@ -232,17 +232,17 @@ met line old past = go (first_word line) refl
     done verb other is c says (Refused why) new does =
         inr (why, inr (inr (verb, other, is, record { cause = inr (c, says, rw (refused_same old new c why does) at does) })))
 
-    obeyed : (verb : Verb) → verb ≢ Screen → IsVerb line verb → Asked verb (behind_word line) → Met line old
+    obeyed : (verb : Verb) → verb ≢ Screen → IsVerb line verb → Asked verb (after_first_word line) → Met line old
     obeyed verb other is (inr none) = inr (fault.Syntax, inr (inr (verb, other, is, record { cause = inl (none, refl) })))
     obeyed verb other is (inl (c, says)) = let (answer, new, does) = call_answers c old past in done verb other is c says answer new does
 
-    shown : IsVerb line Screen → (ws : List (List ℕ)) → words (behind_word line) ≡ ws → Met line old
+    shown : IsVerb line Screen → (ws : List (List ℕ)) → words (after_first_word line) ≡ ws → Met line old
     shown is [] e = inl (session_picture old, old, inr (inl (is, e, refl, refl)))
     shown is (w ∷ ws) e = inr (fault.Syntax, inr (inl (is, λ nothing. (let bad : ⊥ = cc in bad), refl)))
 
     by_verb : (verb : Verb) → IsVerb line verb → Met line old
-    by_verb Screen is = shown is (words (behind_word line)) refl
-    by_verb verb is = obeyed verb (λ e. cc) is (asked verb (behind_word line))
+    by_verb Screen is = shown is (words (after_first_word line)) refl
+    by_verb verb is = obeyed verb (λ e. cc) is (asked verb (after_first_word line))
 
     with_verb : first_word line ≢ [] → Found (map capital (first_word line)) → Met line old
     with_verb some (inl found) = by_verb found.0 found.1
@@ -254,7 +254,7 @@ met line old past = go (first_word line) refl
 
 -- All keys are still typed at counts up to the current one
 
-steps_past : (old new : Stored) (n : ℕ) (end : End) (answer : Answer) → MakesSteps old n end answer new → NoneAbove old.count old.log → NoneAbove new.count new.log
+steps_past : (old new : Stored) (n : ℕ) (end : End) (answer : Answer) → ExecutesSteps old n end answer new → NoneAbove old.count old.log → NoneAbove new.count new.log
 steps_past old new n end (Refused why) h past = rw h.2 past
 steps_past old new n end Done h past = absurd h
 steps_past old new n end (Halted halt) h past = rw h.3.log (omega (arith, past, h.3.further))
@@ -304,11 +304,11 @@ does_no old (call.Back n) h = let same = h.1 in cc
 does_no old (call.SetBreak word) h = let never = place_no old.program.names word.now in grind arith
 does_no old (call.ClearBreak word) h = let never = place_no old.program.names word.now in grind arith
 
-pub never_by_write : (line : List ℕ) (old : Stored) → IsLineRefused line old fault.Write → ⊥
+pub never_by_write : (line : List ℕ) (old : Stored) → IsLineRejected line old fault.Write → ⊥
 never_by_write line old (inl none) = let same = none.2 in cc
 never_by_write line old (inr (inl more)) = let same = more.2 in cc
 never_by_write line old (inr (inr (verb, other, is, refused))) = go refused.cause
   where
-    go : (SaysNone verb (behind_word line) × (fault.Write ≡ fault.Syntax)) ⊎ ((c : Call) × Says verb (behind_word line) c × CallDoes old c (Refused fault.Write) old) → ⊥
+    go : (MeansNoCall verb (after_first_word line) × (fault.Write ≡ fault.Syntax)) ⊎ ((c : Call) × MeansCall verb (after_first_word line) c × CallDoes old c (Refused fault.Write) old) → ⊥
     go (inl none) = let same = none.1 in cc
     go (inr (c, says, does)) = does_no old c does

@@ -9,7 +9,7 @@ use Rattle.a2_debug_script.specs.declared.calls.Answer.{Answer}
 use Rattle.a2_debug_script.specs.declared.calls.Answer.TheVariants.{Halted, Done, Refused}
 use Rattle.a2_debug_script.specs.declared.Halt.{Halt}
 use Rattle.a2_debug_script.specs.Marks.{marked, unmarked, at_place}
-use Rattle.a2_debug_script.specs.Session.{Halted as End, stepped, gone, with_keys, with_breaks, backed}
+use Rattle.a2_debug_script.specs.Session.{Halted as End, stepped, stepped_to_break, with_keys, with_breaks, stepped_back}
 use Rattle.a2_debug_script.specs.Stored.{Stored, session_of, typed_at, up_to, Moves}
 
 -- the answer of a call that steps, and of one that does not
@@ -22,16 +22,16 @@ done_or (Ok _) = Done
 done_or (Err fault) = Refused fault
 
 -- steps are executed, or the call is rejected if there would be too many
-abbrev pub MakesSteps : Stored → ℕ → End → Answer → Stored → Type 0
-MakesSteps old n end (Refused fault) new = (100_000_000 < old.count + n) × (fault ≡ Steps) × (new ≡ old)
-MakesSteps old n end Done new = ⊥
-MakesSteps old n end (Halted halt) new =
+abbrev pub ExecutesSteps : Stored → ℕ → End → Answer → Stored → Type 0
+ExecutesSteps old n end (Refused fault) new = (100_000_000 < old.count + n) × (fault ≡ Steps) × (new ≡ old)
+ExecutesSteps old n end Done new = ⊥
+ExecutesSteps old n end (Halted halt) new =
     (old.count + n ≤ 100_000_000) × (session_of new ≡ end.session) × (halt ≡ end.halt) × Moves old n new
 
 -- the call goes back: it replays exactly the steps from the last count divisible by 1,024
 abbrev pub GoesBack : Stored → ℕ → Stored → Type 0
 GoesBack old n new =
-    (old.oldest + n ≤ old.count) × (session_of new ≡ backed n (session_of old))
+    (old.oldest + n ≤ old.count) × (session_of new ≡ stepped_back n (session_of old))
     × (new ≡ record old { count = old.count - n; log = up_to (old.count - n) old.log; reruns = (old.count - n) % 1024; made = new.made })
     × (old.made + new.reruns < 2 ^ 64 → new.made ≡ old.made + new.reruns)
 
@@ -43,8 +43,8 @@ Sets old (Err fault) answer new = (answer ≡ Refused fault) × (new ≡ old)
 
 -- a call may have this answer and leave this state
 abbrev pub CallDoes : Stored → Call → Answer → Stored → Type 0
-CallDoes old (Step n) answer new = MakesSteps old n (stepped old.program n (session_of old)) answer new
-CallDoes old (Go n) answer new = MakesSteps old n (gone old.program n (session_of old)) answer new
+CallDoes old (Step n) answer new = ExecutesSteps old n (stepped old.program n (session_of old)) answer new
+CallDoes old (Go n) answer new = ExecutesSteps old n (stepped_to_break old.program n (session_of old)) answer new
 CallDoes old (TypeKeys keys) (Refused fault) new = (4096 < length old.log + length keys) × (fault ≡ Full) × (new ≡ old)
 CallDoes old (TypeKeys keys) Done new =
     (length old.log + length keys ≤ 4096) × (session_of new ≡ with_keys keys (session_of old))

@@ -6,7 +6,7 @@ use Rattle.a2_debug_script.specs.declared.calls.Call.{Call}
 use Rattle.a2_debug_script.specs.declared.calls.Answer.{Answer}
 use Rattle.a2_debug_script.specs.Stored.{Stored, NoneAbove, session_of}
 use Rattle.a2_debug_script.specs.Calls.{CallDoes, Run}
-use Rattle.a2_debug_script.specs.Answers.{IsDebugAnswer, IsLineRefused}
+use Rattle.a2_debug_script.specs.Answers.{IsDebugAnswer, IsLineRejected}
 
 -- no key was typed at a count after the current one
 abbrev pub KeysArePast : Stored → Type 0
@@ -30,7 +30,7 @@ OneSession = (s t : Stored) → LookAlike s t → session_of s ≡ session_of t
 abbrev pub EachLineHasAnswer : Type 0
 EachLineHasAnswer =
     (line : List ℕ) (old : Stored) → KeysArePast old
-    → ((text : List ℕ) × (new : Stored) × IsDebugAnswer line old text new) ⊎ ((why : DebugFault) × IsLineRefused line old why)
+    → ((text : List ℕ) × (new : Stored) × IsDebugAnswer line old text new) ⊎ ((why : DebugFault) × IsLineRejected line old why)
 
 -- afterwards, no key is typed at a count later than the current one
 abbrev pub KeysStayPast : Type 0
@@ -40,7 +40,7 @@ KeysStayPast = (line text : List ℕ) (old new : Stored) → IsDebugAnswer line 
 abbrev pub NeverBoth : Type 0
 NeverBoth =
     (line text : List ℕ) (old other new : Stored) (why : DebugFault) → LookAlike old other
-    → IsDebugAnswer line old text new → IsLineRefused line other why → ⊥
+    → IsDebugAnswer line old text new → IsLineRejected line other why → ⊥
 
 -- a line has at most one answer, and the states after it look alike
 abbrev pub OneAnswer : Type 0
@@ -49,10 +49,10 @@ OneAnswer =
     → IsDebugAnswer line old text new → IsDebugAnswer line other words next → (text ≡ words) × LookAlike new next
 
 -- a line has at most one error
-abbrev pub OneLineRefusal : Type 0
-OneLineRefusal =
+abbrev pub OneLineError : Type 0
+OneLineError =
     (line : List ℕ) (old other : Stored) (why reason : DebugFault) → LookAlike old other
-    → IsLineRefused line old why → IsLineRefused line other reason → why ≡ reason
+    → IsLineRejected line old why → IsLineRejected line other reason → why ≡ reason
 
 -- each call has an answer
 abbrev pub EachCallHasAnswer : Type 0

@@ -18,19 +18,19 @@ pub record Session : Type 0 where
   pub oldest : ℕ
 
 -- the lowest count that `back` can return to, once this count is reached
-abbrev pub raised : ℕ → ℕ → ℕ
-raised oldest count = max oldest (1024 * (count / 1024 - 7))
+abbrev pub oldest_after : ℕ → ℕ → ℕ
+oldest_after oldest count = max oldest (1024 * (count / 1024 - 7))
 
 -- the session at its start
-abbrev pub fresh : Assembled → Session
-fresh program = record { last = start program; earlier = []; breaks = []; oldest = 0 }
+abbrev pub start_session : Assembled → Session
+start_session program = record { last = start program; earlier = []; breaks = []; oldest = 0 }
 
 -- the session with one more world
 unfoldable pub appended : Assembled → Session → Session
 appended program session = record session {
   last = next (guarded_code program) session.last;
   earlier = session.last ∷ session.earlier;
-  oldest = raised session.oldest (length session.earlier + 1);
+  oldest = oldest_after session.oldest (length session.earlier + 1);
 }
 
 -- the reason why steps must end at a world, if they did not end before
@@ -58,20 +58,20 @@ advanced program marks (suc n) session =
 abbrev pub stepped : Assembled → ℕ → Session → Halted
 stepped program n session = advanced program [] n session
 
-abbrev pub gone : Assembled → ℕ → Session → Halted
-gone program n session = advanced program session.breaks n session
+abbrev pub stepped_to_break : Assembled → ℕ → Session → Halted
+stepped_to_break program n session = advanced program session.breaks n session
 
 -- keys typed at the last world
 unfoldable pub with_keys : List ℕ → Session → Session
 with_keys keys session = record session { last = typed keys session.last }
 
 -- the session without this many of its last worlds
-unfoldable pub backed : ℕ → Session → Session
-backed zero session = session
-backed (suc n) session =
+unfoldable pub stepped_back : ℕ → Session → Session
+stepped_back zero session = session
+stepped_back (suc n) session =
     elim session.earlier [
       | [] ↦ session
-      | world ∷ worlds ↦ backed n (record session { last = world; earlier = worlds })
+      | world ∷ worlds ↦ stepped_back n (record session { last = world; earlier = worlds })
     ]
 
 -- the session with other breakpoints

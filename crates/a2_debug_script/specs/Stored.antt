@@ -53,8 +53,8 @@ session_of s = record {
 }
 
 -- a debugger at the start of a program, whose machines have executed this many steps before
-abbrev pub begun : Assembled → ℕ → Stored
-begun program made = record { program = program; log = []; count = 0; breaks = []; oldest = 0; reruns = 0; made = made }
+abbrev pub debugger_at_start : Assembled → ℕ → Stored
+debugger_at_start program made = record { program = program; log = []; count = 0; breaks = []; oldest = 0; reruns = 0; made = made }
 
 -- these keys, typed at this count
 abbrev pub typed_at : ℕ → List ℕ → List Typed
@@ -77,8 +77,8 @@ InOrder [] = Unit {0}
 InOrder (t ∷ ts) = NoneBelow t.count ts × InOrder ts
 
 -- the byte that a program puts at an address
-abbrev pub laid_by : Assembled → ℕ → ℕ
-laid_by program a = unwrap_or (held program.image a) 0
+abbrev pub byte_of_program : Assembled → ℕ → ℕ
+byte_of_program program a = unwrap_or (held program.image a) 0
 
 -- a machine with this program's guard, which has executed this many steps, holds this world
 pub record IsAt (program : Assembled) (world : World) (count : ℕ) (state : MachineState) : Type 0 where
@@ -87,7 +87,7 @@ pub record IsAt (program : Assembled) (world : World) (count : ℕ) (state : Mac
   pub guarded : state.guard ≡ Some (guard_of_program program)
   -- the processor finds the program's statements wherever memory holds its code, and memory does hold it
   pub sound : IsSound program
-  pub code : HoldsCode (guard_of_program program).code (laid_by program) world.memory
+  pub code : HoldsCode (guard_of_program program).code (byte_of_program program) world.memory
 
 -- none of the worlds at the counts below is stuck
 abbrev pub NoneStuck : Assembled → List Typed → ℕ → Type 0
@@ -119,8 +119,8 @@ pub record Moves (old : Stored) (limit : ℕ) (new : Stored) : Type 0 where
   pub made : old.made + limit < 2 ^ 64 → new.made ≡ old.made + (new.count - old.count)
 
 -- all keys were typed at counts below this one
-abbrev pub AllUnder : ℕ → List Typed → Type 0
-AllUnder count log = All (λ t. t.count < count) log
+abbrev pub AllBelow : ℕ → List Typed → Type 0
+AllBelow count log = All (λ t. t.count < count) log
 
 -- a state with the guard of a program
 abbrev pub under_guard : Assembled → MachineState → MachineState

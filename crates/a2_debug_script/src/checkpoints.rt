@@ -3,7 +3,7 @@
 ghost use Rattle.std.specs.Prelude.{◌≡◌, ◌*◌, ◌<◌, ◌≤◌, ◌++◌, ◌∷◌, [], Some, length, take, IfOk};
 ghost use Rattle.a2_debug_script.specs.Held.{unguarded};
 ghost use Rattle.a2_debug_script.specs.Kept.{kept_at};
-ghost use Rattle.a2_debug_script.specs.Session.{raised};
+ghost use Rattle.a2_debug_script.specs.Session.{oldest_after};
 ghost use Rattle.circular_buffer.specs.Buffer.{buffer, keep_last, last_item};
 
 use a2_machine::Machine;
@@ -15,7 +15,7 @@ use std::marker::Model;
 pub const STRIDE: u32 = 1024;
 
 /// The most checkpoints that are held.
-const MOST_HELD: usize = 8;
+const MAX_CHECKPOINTS: usize = 8;
 
 /// Checkpoints. All memory is allocated at the start. The machines are never run, so they stay without a guard. Each
 /// machine stays in its box, because it has 4 KB or more and moving it would copy all of that.
@@ -75,9 +75,9 @@ pub fn keep_at<A: Allocator>(
 
 /// Returns the oldest count that `back` can return to, once this count is reached.
 pub fn oldest_at(oldest: u32, count: u32) -> u32
-    ensures { result ≡ raised oldest count }
+    ensures { result ≡ oldest_after oldest count }
 {
-    oldest.max((count / STRIDE).saturating_sub(MOST_HELD as u32 - 1) * STRIDE)
+    oldest.max((count / STRIDE).saturating_sub(MAX_CHECKPOINTS as u32 - 1) * STRIDE)
 }
 
 impl<A: Allocator + Copy> Checkpoints<A> {
@@ -86,9 +86,9 @@ impl<A: Allocator + Copy> Checkpoints<A> {
         ensures held { IfOk result (λ c. c.held ≡ []) }
         ensures made { IfOk result (λ c. c.made ≡ 0) }
     {
-        let ring = HeapCircularBuffer::with_capacity(alloc, MOST_HELD)?;
-        let mut spare = Vec::with_capacity(alloc, MOST_HELD)?;
-        for _ in 0..MOST_HELD {
+        let ring = HeapCircularBuffer::with_capacity(alloc, MAX_CHECKPOINTS)?;
+        let mut spare = Vec::with_capacity(alloc, MAX_CHECKPOINTS)?;
+        for _ in 0..MAX_CHECKPOINTS {
             spare.push(Box::new(alloc, Machine::for_copies(alloc)?)?)?;
         }
         Ok(Checkpoints { ring, spare })

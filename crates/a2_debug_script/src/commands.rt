@@ -4,7 +4,7 @@ ghost use Rattle.std.specs.Prelude.{◌≡◌, ◌≢◌, map, true, false, IfSo
 ghost use Rattle.a2_text.specs.Bytes.{capital as capital_of, digit as digit_of, is_digit};
 ghost use Rattle.a2_text.specs.Words.{words};
 ghost use Rattle.a2_debug_script.specs.Lines as said;
-ghost use Rattle.a2_debug_script.specs.Answers.{Says, SaysNone};
+ghost use Rattle.a2_debug_script.specs.Answers.{MeansCall, MeansNoCall};
 ghost use Rattle.a2_debug_script.specs.declared.calls.Call.TheVariants.{TypeKeys as CallTypeKeys};
 ghost use Rattle.a2_debug_script.specs.declared.commands.Verb.TheVariants.{TypeKeys as VerbTypeKeys};
 ghost use Rattle.a2_debug_script.specs.declared.commands.Verb.{Verb as DeclaredVerb};
@@ -96,8 +96,8 @@ pub fn number_in(text: &[u8]) -> Option<u32>
 
 // Returns the keys written after exactly one blank.
 fn keys_in(rest: &[u8]) -> Option<Keys>
-    ensures some { IfSome result (λ keys. Says VerbTypeKeys rest.now (CallTypeKeys keys)) }
-    ensures none { IfNone result (SaysNone VerbTypeKeys rest.now) }
+    ensures some { IfSome result (λ keys. MeansCall VerbTypeKeys rest.now (CallTypeKeys keys)) }
+    ensures none { IfNone result (MeansNoCall VerbTypeKeys rest.now) }
 {
     let (_, text) = rest.split_first()?;
     let Ok(text) = std::str::from_utf8(text) else {
@@ -109,8 +109,8 @@ fn keys_in(rest: &[u8]) -> Option<Keys>
 /// Returns the call that a verb and the text after it mean.
 #[inline(always)]
 pub fn call_of(verb: Verb, rest: &[u8]) -> Option<Call<'_>>
-    ensures some { IfSome result (λ call. Says verb rest.now call) }
-    ensures none { IfNone result (SaysNone verb rest.now) }
+    ensures some { IfSome result (λ call. MeansCall verb rest.now call) }
+    ensures none { IfNone result (MeansNoCall verb rest.now) }
 {
     match verb {
         Verb::Step => Some(Call::Step(number_in(rest)?)),

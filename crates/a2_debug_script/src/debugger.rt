@@ -8,13 +8,13 @@ ghost use Rattle.a2_effect.specs.View.{spare_bits_of, registers_of};
 ghost use Rattle.a2_machine.specs.State.{IsRunTo};
 ghost use Rattle.a2_debug_script.specs.declared.calls.Call.TheVariants.{Step, Go, TypeKeys, Back};
 ghost use Rattle.a2_debug_script.specs.declared.fault.DebugFault.TheVariants.{Memory};
-ghost use Rattle.a2_debug_script.specs.Calls.{CallDoes, MakesSteps, done_or, halted_or};
+ghost use Rattle.a2_debug_script.specs.Calls.{CallDoes, ExecutesSteps, done_or, halted_or};
 ghost use Rattle.a2_debug_script.specs.Marks.{marked, unmarked, at_place, Marks};
-ghost use Rattle.a2_debug_script.specs.Session.{advanced, fresh};
+ghost use Rattle.a2_debug_script.specs.Session.{advanced, start_session};
 ghost use Rattle.a2_stream.specs.Stream.{SendsOrBreaks};
 ghost use Rattle.a2_debug_script.specs.Lines.{session_line, halt_line, session_picture};
 ghost use Rattle.a2_debug_script.specs.Runs.{heeded, halt_by, RunsToCount};
-ghost use Rattle.a2_debug_script.specs.Stored.{session_of, begun};
+ghost use Rattle.a2_debug_script.specs.Stored.{session_of, debugger_at_start};
 
 use crate::checkpoints::{Checkpoints, STRIDE, keep_at, oldest_at};
 use crate::marks::{BreakSet, place_of};
@@ -31,10 +31,10 @@ use std::alloc::{Allocator, Global};
 use std::marker::Model;
 
 /// The most steps of a session.
-const MOST_COUNT: u32 = 100_000_000;
+const MAX_COUNT: u32 = 100_000_000;
 
 /// The most keys that can be typed in a session.
-const MOST_KEYS: usize = 4096;
+const MAX_KEYS: usize = 4096;
 
 /// How breakpoints are treated during steps.
 #[derive(Clone, Copy)]
@@ -130,12 +130,12 @@ impl<A: Allocator + Copy> Debugger<A> {
         machine: Machine<A>,
         program: Program<A>,
     ) -> Result<Debugger<A>, DebugFault>
-        ensures session { IfOk result (λ d. session_of d ≡ fresh program) }
-        ensures begun { IfOk result (λ d. d ≡ begun program machine.made) }
+        ensures session { IfOk result (λ d. session_of d ≡ start_session program) }
+        ensures debugger_at_start { IfOk result (λ d. d ≡ debugger_at_start program machine.made) }
         ensures refused { IfErr result (λ fault. fault ≡ Memory) }
     {
         let mut machine = machine;
-        let Ok(log) = Vec::with_capacity(alloc, MOST_KEYS) else {
+        let Ok(log) = Vec::with_capacity(alloc, MAX_KEYS) else {
             return Err(DebugFault::Memory);
         };
         let Ok(breaks) = BreakSet::new(alloc) else {
@@ -179,11 +179,11 @@ impl<A: Allocator> Debugger<A> {
 
     // Executes at most this many steps, from checkpoint to checkpoint.
     #[tactic(auto, using(crate::proofs::Runs::on_the_way, crate::proofs::Runs::goes_on_from))]
-    fn make_steps(&mut self, n: u32, breaks: Breaks) -> Result<Halt, DebugFault>
-        ensures { MakesSteps self.old n (advanced self.old.program (heeded breaks self.old.breaks) n (session_of self.old))
+    fn execute_steps(&mut self, n: u32, breaks: Breaks) -> Result<Halt, DebugFault>
+        ensures { ExecutesSteps self.old n (advanced self.old.program (heeded breaks self.old.breaks) n (session_of self.old))
             (halted_or result) self.new }
     {
-        if n > MOST_COUNT - self.count {
+        if n > MAX_COUNT - self.count {
             return Err(DebugFault::Steps);
         }
         let end = self.count + n;
@@ -204,7 +204,7 @@ impl<A: Allocator> Debugger<A> {
     pub fn step(&mut self, n: u32) -> Result<Halt, DebugFault>
         ensures { CallDoes self.old (Step n) (halted_or result) self.new }
     {
-        self.make_steps(n, Breaks::Ignored)
+        self.execute_steps(n, Breaks::Ignored)
     }
 
     /// Steps like [`Debugger::step`], with `limit` as the number of steps, but also ends after a step that reaches a
@@ -214,7 +214,7 @@ impl<A: Allocator> Debugger<A> {
     pub fn go(&mut self, limit: u32) -> Result<Halt, DebugFault>
         ensures { CallDoes self.old (Go limit) (halted_or result) self.new }
     {
-        self.make_steps(limit, Breaks::Heeded)
+        self.execute_steps(limit, Breaks::Heeded)
     }
 
     /// Types `keys` at the current count, in order, after those that are waiting. Fails with `DebugFault::Full` exactly
@@ -223,7 +223,7 @@ impl<A: Allocator> Debugger<A> {
         ensures { CallDoes self.old (TypeKeys keys.now) (done_or result) self.new }
     {
         let bytes = keys.bytes();
-        if self.log.len() + bytes.len() > MOST_KEYS {
+        if self.log.len() + bytes.len() > MAX_KEYS {
             return Err(DebugFault::Full);
         }
         // No more keys are waiting than the log has, so there is room.

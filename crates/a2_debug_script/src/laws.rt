@@ -1,6 +1,6 @@
 //! Laws about the meaning of lines and calls. The functions do nothing: their contracts are the laws.
 
-ghost use Rattle.a2_debug_script.specs.Laws.{OneSession, EachLineHasAnswer, KeysStayPast, NeverBoth, OneAnswer, OneLineRefusal};
+ghost use Rattle.a2_debug_script.specs.Laws.{OneSession, EachLineHasAnswer, KeysStayPast, NeverBoth, OneAnswer, OneLineError};
 ghost use Rattle.a2_debug_script.specs.Laws.{EachCallHasAnswer, OneCallAnswer, EachListHasAnswers, OneListOfAnswers};
 
 /// If no key was typed at a later count than the current one, each line has either an answer or an error, never both.
@@ -13,7 +13,7 @@ pub fn each_line_has_one_answer()
     ensures past { KeysStayPast }
     ensures never_both { NeverBoth }
     ensures one { OneAnswer }
-    ensures refusal { OneLineRefusal }
+    ensures refusal { OneLineError }
 {}
 
 /// In the same way each call has exactly one answer, which may be an error, and each list of calls has exactly one list

@@ -21,7 +21,7 @@ impl<A: Allocator> Debugger<A> {
 
     // The same. It is not inlined, because room for the keys of `type`, 4,104 bytes, would be cleared for each line.
     #[inline(never)]
-    fn answer_apart(&mut self, verb: Verb, rest: &[u8]) -> Option<Answer>
+    fn answer_not_inlined(&mut self, verb: Verb, rest: &[u8]) -> Option<Answer>
         ensures { IsAnswered verb rest.now self.old result self.new }
     {
         self.answer(verb, rest)
@@ -58,7 +58,7 @@ impl<A: Allocator> Debugger<A> {
             return Ok(self.show_picture(writer)?);
         }
         let answer = match verb {
-            Verb::TypeKeys => self.answer_apart(verb, rest),
+            Verb::TypeKeys => self.answer_not_inlined(verb, rest),
             _ => self.answer(verb, rest),
         };
         match answer.ok_or(DebugFault::Syntax)? {

@@ -14,7 +14,7 @@ use std::alloc::{AllocError, Allocator, Global};
 use std::marker::Model;
 
 /// The most breakpoints.
-const MOST_BREAKS: usize = 256;
+const MAX_BREAKS: usize = 256;
 
 /// How many addresses there are.
 const ADDRESSES: usize = 0x1_0000;
@@ -77,7 +77,7 @@ impl<A: Allocator + Copy> BreakSet<A> {
     pub fn new(alloc: A) -> Result<Box<BreakSet<A>, A>, AllocError>
         ensures { IfOk result (λ marks. marks.value ≡ []) }
     {
-        let places = Vec::with_capacity(alloc, MOST_BREAKS)?;
+        let places = Vec::with_capacity(alloc, MAX_BREAKS)?;
         let marked = [false; ADDRESSES];
         Ok(Box::new(alloc, BreakSet { places, marked })?)
     }
@@ -91,7 +91,7 @@ impl<A: Allocator> BreakSet<A> {
         if self.is_breakpoint(address) {
             return Ok(());
         }
-        if self.places.len() >= MOST_BREAKS {
+        if self.places.len() >= MAX_BREAKS {
             return Err(DebugFault::Full);
         }
         self.places.push_reserved(address);

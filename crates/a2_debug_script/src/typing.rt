@@ -1,7 +1,7 @@
 //! The log of typed keys.
 
 ghost use Rattle.std.specs.Prelude.{◌≡◌, ◌+◌, ◌≤◌, ◌++◌, length, take, drop, vec_len, vec_capacity};
-ghost use Rattle.a2_debug_script.specs.Stored.{typed_at, up_to, InOrder, AllUnder, NoneBelow};
+ghost use Rattle.a2_debug_script.specs.Stored.{typed_at, up_to, InOrder, AllBelow, NoneBelow};
 
 use crate::Typed;
 use std::alloc::Allocator;
@@ -29,7 +29,7 @@ pub fn forget_after<A: Allocator>(log: &mut Vec<Typed, A>, count: u32)
 pub fn typed_below(log: &[Typed], count: u32) -> usize
     requires { InOrder log.now }
     ensures known { result ≤ length log.now }
-    ensures under { AllUnder count (take result log.now) }
+    ensures under { AllBelow count (take result log.now) }
     ensures later { NoneBelow count (drop result log.now) }
 {
     let mut typed = 0;

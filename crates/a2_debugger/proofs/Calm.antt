@@ -39,12 +39,12 @@ use Rattle.a2_machine.proofs.Marking.{among-low}
 use Rattle.a2_run.specs.Started.{guard_of_run}
 use Rattle.a2_history.specs.declared.Typed.{Typed}
 use Rattle.a2_history.specs.Courses.{Course, typed, with_keys, with_logged, arrived, world_on, NoneStuck}
-use Rattle.a2_history.specs.Going.{Track, here, Warns}
+use Rattle.a2_history.specs.Going.{Track, here, AlarmsAreComplete}
 use Rattle.a2_symbols.specs.declared.places.Span.{Span}
 use Rattle.a2_debugger.specs.declared.stops.Break.{Break}
 use Rattle.a2_debugger.specs.Inspections.{is_at, is_left}
-use Rattle.a2_debugger.specs.Stops.{Moment, moment_of, holds, is_hit, is_other, is_changed_from, is_span_changed, is_changed_in, is_stop}
-use Rattle.a2_debugger.specs.Alerts.{Alerts, is_marked, is_watched, place_in, StandsCalm, IsCalm, MarksAllBut, AreAlerts, alarms, WarnsOfStops}
+use Rattle.a2_debugger.specs.Stops.{Moment, moment_of, holds, is_hit, bytes_differ, is_changed_from, is_span_changed, is_changed_in, is_stop}
+use Rattle.a2_debugger.specs.Alerts.{Alerts, is_marked, is_watched, place_in, IsCalmStatement, IsCalm, MarksAllBut, AreAlerts, alarms, WarnsOfStops}
 
 or-true : (b : Bool) → (b || true) ≡ true
 or-true true = refl
@@ -61,7 +61,7 @@ any-at p (x ∷ xs) (suc i) d low is = ap (λ v. p x || v) (any-at p xs i d (ome
 
 -- a calm statement makes its address calm
 pub calm-at : (watches : List Span) (statements : List Statement) (memory : Memory) (i : ℕ) (d : Statement)
-    → i < length statements → StandsCalm watches memory (get_or statements i d) → IsCalm watches statements memory (get_or statements i d).addr
+    → i < length statements → IsCalmStatement watches memory (get_or statements i d) → IsCalm watches statements memory (get_or statements i d).addr
 calm-at watches statements memory i d low calm =
     (get_or statements i d, (i, low, get_or_default statements i (get_or statements i d) d low), refl, calm)
 
@@ -78,22 +78,22 @@ same-or-not : (a b : ℕ) → (a ≡ b) ⊎ (a ≢ b)
 same-or-not a b = grind arith
 
 pub cleared : (watches : List Span) (memory : Memory) (marks : List Bool) (s : Statement) (at : ℕ) → at ≡ s.addr
-    → StandsCalm watches memory s → (a : ℕ) → is_marked (slice_set marks at false) a ≡ false
-    → (is_marked marks a ≡ false) ⊎ ((s.addr ≡ a) × StandsCalm watches memory s)
+    → IsCalmStatement watches memory s → (a : ℕ) → is_marked (slice_set marks at false) a ≡ false
+    → (is_marked marks a ≡ false) ⊎ ((s.addr ≡ a) × IsCalmStatement watches memory s)
 cleared watches memory marks s at here calm a unmarked = go (same-or-not a at)
   where
-    go : (a ≡ at) ⊎ (a ≢ at) → (is_marked marks a ≡ false) ⊎ ((s.addr ≡ a) × StandsCalm watches memory s)
+    go : (a ≡ at) ⊎ (a ≢ at) → (is_marked marks a ≡ false) ⊎ ((s.addr ≡ a) × IsCalmStatement watches memory s)
     go (inl e) = inr (sym (e ∙ here), calm)
     go (inr ne) = inl (sym (get_or-set_other marks at a false true ne) ∙ unmarked)
 
 pub calm-more : (watches : List Span) (statements : List Statement) (memory : Memory) (old new : List Bool)
     (i : ℕ) (d : Statement) → i < length statements → MarksAllBut watches statements memory old
     → ((a : ℕ) → is_marked new a ≡ false
-    → (is_marked old a ≡ false) ⊎ (((get_or statements i d).addr ≡ a) × StandsCalm watches memory (get_or statements i d)))
+    → (is_marked old a ≡ false) ⊎ (((get_or statements i d).addr ≡ a) × IsCalmStatement watches memory (get_or statements i d)))
     → MarksAllBut watches statements memory new
 calm-more watches statements memory old new i d low all made a unmarked = go (made a unmarked)
   where
-    go : (is_marked old a ≡ false) ⊎ (((get_or statements i d).addr ≡ a) × StandsCalm watches memory (get_or statements i d))
+    go : (is_marked old a ≡ false) ⊎ (((get_or statements i d).addr ≡ a) × IsCalmStatement watches memory (get_or statements i d))
         → IsCalm watches statements memory a
     go (inl e) = all a e
     go (inr is) = subst (λ k. IsCalm watches statements memory k) is.0 (calm-at watches statements memory i d low is.1)
@@ -213,7 +213,7 @@ unfolding is_changed_from
 unchanged-from first zero ram = refl
 unchanged-from first (suc n) ram = ap₂ (λ x y. x || y) (unchanged-from first n ram) (same (ram (first + n)))
   where
-    same : (o : Option ℕ) → is_other o o ≡ false
+    same : (o : Option ℕ) → bytes_differ o o ≡ false
     same None = refl
     same (Some byte) = ap not (same-number byte)
 
@@ -247,7 +247,7 @@ unfolding is_changed_from
 span-same first zero before one other same = refl
 span-same first (suc n) before one other same =
     ap₂ (λ x y. x || y) (span-same first n before one other (λ k l. same k (omega (arith, l))))
-    (ap (λ o. is_other o (before (first + n))) (same n (omega arith)))
+    (ap (λ o. bytes_differ o (before (first + n))) (same n (omega arith)))
 
 watched-same : (watches : List Span) (before one other : ℕ → Option ℕ) → ((a : ℕ) → is_watched watches a ≡ true → one a ≡ other a)
     → list_any (is_span_changed before one) watches ≡ list_any (is_span_changed before other) watches
@@ -390,7 +390,7 @@ warned free program track before breaks watches alerts is guarded are =
 
 -- and up to the step where a routine returns
 pub warns-left : (s : ℕ) (alerts : Alerts) (breaks : List Break) (watches : List Span) (track : Track) → WarnsOfStops alerts breaks watches track
-    → Warns (is_left s (is_stop breaks watches (here track))) (λ shown. nat_le s shown.look.next_s || alarms alerts breaks watches (here track) shown)
+    → AlarmsAreComplete (is_left s (is_stop breaks watches (here track))) (λ shown. nat_le s shown.look.next_s || alarms alerts breaks watches (here track) shown)
     track.course track.position
 warns-left s alerts breaks watches track stops k l went seen calm =
     let off = or-false (nat_le s (world_on track.course (k + 1)).registers.s) _ calm in
@@ -402,5 +402,5 @@ warns-left s alerts breaks watches track stops k l went seen calm =
     right true v e h = absurd (true≢false e)
 
 -- an address that no step reaches
-pub warns-at : (address : ℕ) (course : Course) (from : ℕ) → Warns (is_at address) (λ shown. shown.look.next_pc == address) course from
+pub warns-at : (address : ℕ) (course : Course) (from : ℕ) → AlarmsAreComplete (is_at address) (λ shown. shown.look.next_pc == address) course from
 warns-at address course from k l went seen calm = absurd (true≢false (sym seen ∙ calm))

@@ -10,7 +10,7 @@ use Rattle.a2_opcode.specs.Encoding.{IsFetchedFrom}
 use Rattle.a2_bus.specs.Memory.{Memory, ram_end, ram_byte, peek}
 use Rattle.a2_asm.specs.declared.program.Statement.{Statement}
 use Rattle.a2_asm.specs.Programs.{Holds}
-use Rattle.a2_debugger.specs.Alerts.{Stands}
+use Rattle.a2_debugger.specs.Alerts.{IsFetchedAt}
 
 -- an address with a byte is in RAM
 byte-low : (m : Memory) (a byte : ℕ) → peek m a ≡ Some byte → a < ram_end
@@ -37,7 +37,7 @@ front-of-part xs from to n k low =
 -- an instruction decoded from a statement's bytes of RAM is fetched there
 pub stands : (memory : Memory) (ram part : List ℕ) (s : Statement) (first size : ℕ) (found : Option Instr)
     → slice_get ram ≡ peek memory → part ≡ slice_range ram first (first + size) → first ≡ s.addr → size ≡ s.length
-    → IfSome found (λ i. IsFetchedFrom i s.addr (take (length_of i.mode) part)) → IfSome found (λ i. Stands memory s i)
+    → IfSome found (λ i. IsFetchedFrom i s.addr (take (length_of i.mode) part)) → IfSome found (λ i. IsFetchedAt memory s i)
 stands memory ram part s first size None shown is at long from = tt
 stands memory ram part s first size (Some i) shown is at long from = λ other same. from (peek other) (shows other same)
   where

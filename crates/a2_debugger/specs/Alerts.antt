@@ -14,7 +14,7 @@ use Rattle.a2_services.specs.World.{World}
 use Rattle.a2_services.specs.Services.{service_at}
 use Rattle.a2_asm.specs.declared.program.Statement.{Statement}
 use Rattle.a2_asm.specs.Programs.{Holds}
-use Rattle.a2_history.specs.Going.{Track, here, Warns}
+use Rattle.a2_history.specs.Going.{Track, here, AlarmsAreComplete}
 use Rattle.a2_debugger.specs.Stops.{Moment, is_hit, is_span_changed, is_stop}
 use Rattle.a2_debugger.specs.declared.stops.Break.{Break}
 use Rattle.a2_debugger.specs.declared.stops.Moment.{Moment as DeclaredMoment}
@@ -38,27 +38,27 @@ abbrev pub place_in : World → Instr → Place
 place_in world i = place_of memory_access world.memory world.registers i.mode i.value
 
 -- in any world, an instruction's operand is at no watched address
-abbrev pub SparesAt : List Span → Instr → Type 0
-SparesAt watches i = (world : World) → list_any (is_watched watches) (place_addresses (place_in world i)) ≡ false
+abbrev pub OperandNeverWatched : List Span → Instr → Type 0
+OperandNeverWatched watches i = (world : World) → list_any (is_watched watches) (place_addresses (place_in world i)) ≡ false
 
 -- in any world, it stores and pushes at no watched address
-abbrev pub Spares : List Span → Instr → Type 0
-Spares watches i = (world : World)
+abbrev pub NeverChangesWatched : List Span → Instr → Type 0
+NeverChangesWatched watches i = (world : World)
     → list_any (is_watched watches) (effect_stores (effect_of i.mnemonic) (place_in world i) world.registers.s) ≡ false
 
 -- this instruction is fetched at a statement's address from any memory that holds the statement's bytes as this memory does
-abbrev pub Stands : Memory → Statement → Instr → Type 0
-Stands memory statement i = (other : Memory) → ((a : ℕ) → Holds statement a → peek other a ≡ peek memory a)
+abbrev pub IsFetchedAt : Memory → Statement → Instr → Type 0
+IsFetchedAt memory statement i = (other : Memory) → ((a : ℕ) → Holds statement a → peek other a ≡ peek memory a)
     → (found : Row) × (row i.mnemonic i.mode ≡ Some found) × (fetched (peek other) statement.addr ≡ instruction found i.value)
 
 -- such an instruction that changes no watched byte
 pub record IsHarmless (watches : List Span) (memory : Memory) (statement : Statement) : Type 0 where
   pub instr : Instr
-  pub stands : Stands memory statement instr
-  pub spares : Spares watches instr
+  pub stands : IsFetchedAt memory statement instr
+  pub spares : NeverChangesWatched watches instr
 
 -- the statement is such an instruction, and not a service
-pub record StandsCalm (watches : List Span) (memory : Memory) (statement : Statement) : Type 0 where
+pub record IsCalmStatement (watches : List Span) (memory : Memory) (statement : Statement) : Type 0 where
   pub some : is_some statement.instr ≡ true
   pub none : service_at statement.addr ≡ None
   pub harmless : IsHarmless watches memory statement
@@ -66,7 +66,7 @@ pub record StandsCalm (watches : List Span) (memory : Memory) (statement : State
 -- one of these statements begins at the address and is calm
 abbrev pub IsCalm : List Span → List Statement → Memory → ℕ → Type 0
 IsCalm watches statements memory address =
-    (s : Statement) × Contains statements s × (s.addr ≡ address) × StandsCalm watches memory s
+    (s : Statement) × Contains statements s × (s.addr ≡ address) × IsCalmStatement watches memory s
 
 -- all addresses except calm ones are marked
 abbrev pub MarksAllBut : List Span → List Statement → Memory → List Bool → Type 0
@@ -80,12 +80,12 @@ pub record AreAlerts (free : Bool) (statements : List Statement) (memory : Memor
       → (watches ≡ []) ⊎ ((free ≡ false) × IsCalm watches statements memory address)
 
 -- the state that decides a stop, with RAM as a function of the address
-abbrev pub told : DeclaredMoment → Moment
-told m = record { pc = m.pc; a = m.a; x = m.x; y = m.y; s = m.s; p = m.p; ram = slice_get m.ram.now }
+abbrev pub moment_of_declared : DeclaredMoment → Moment
+moment_of_declared m = record { pc = m.pc; a = m.a; x = m.x; y = m.y; s = m.s; p = m.p; ram = slice_get m.ram.now }
 
 -- the same state after a step
-abbrev pub moment_behind : Shown → Moment
-moment_behind shown = record {
+abbrev pub moment_after : Shown → Moment
+moment_after shown = record {
   pc = shown.look.next_pc;
   a = shown.look.next_a;
   x = shown.look.next_x;
@@ -99,10 +99,10 @@ moment_behind shown = record {
 -- differs from the given world
 abbrev pub alarms : Alerts → List Break → List Span → World → Shown → Bool
 alarms alerts breaks watches now shown =
-    (is_marked alerts.stops shown.look.next_pc && list_any (is_hit (moment_behind shown)) breaks)
+    (is_marked alerts.stops shown.look.next_pc && list_any (is_hit (moment_after shown)) breaks)
     || (is_marked alerts.stores shown.look.pc && list_any (is_span_changed (peek now.memory) shown.ram) watches)
 
 -- every step from a position on that reaches a stop is one of these
 abbrev pub WarnsOfStops : Alerts → List Break → List Span → Track → Type 0
 WarnsOfStops alerts breaks watches track =
-    Warns (is_stop breaks watches (here track)) (alarms alerts breaks watches (here track)) track.course track.position
+    AlarmsAreComplete (is_stop breaks watches (here track)) (alarms alerts breaks watches (here track)) track.course track.position

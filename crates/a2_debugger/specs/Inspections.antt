@@ -1,7 +1,7 @@
 -- The effect of the debugger's lines. This project's profile.
 use Rattle.std.specs.Prelude.{◌≡◌, ◌⊎◌, ℕ, ◌+◌, ◌-◌, ◌<◌, ◌≤◌, min, not, nat_lt, nat_le, List, [], ◌∷◌, ◌++◌, ◌==◌, ◌||◌, ◌&&◌, length, map, take, filter, slice_get, Bool, true, false, Option, Some, None, if◌then◌else◌}
 use Rattle.a2_text.specs.Bytes.{capital}
-use Rattle.a2_text.specs.Words.{words, first_word, behind_word}
+use Rattle.a2_text.specs.Words.{words, first_word, after_first_word}
 use Rattle.a2_services.specs.World.{World}
 use Rattle.a2_asm.specs.Assembled.{Assembled}
 use Rattle.a2_run.specs.Started.{IsStarted}
@@ -11,12 +11,12 @@ use Rattle.a2_history.specs.Going.{Track, here, Advances, IsNewest, with_typed}
 use Rattle.a2_symbols.specs.Routines.{is_call}
 use Rattle.a2_history.specs.Routines.{entered, IsNewestOutside}
 use Rattle.a2_debugger.specs.Words.{IsVerb}
-use Rattle.a2_debugger.specs.Sayings.{Says, SaysNone}
+use Rattle.a2_debugger.specs.Sayings.{IsCommandOf, IsNoCommand}
 use Rattle.a2_debugger.specs.Stops.{is_stop, is_changed_in}
-use Rattle.a2_debugger.specs.declared.order.Order.{Order}
-use Rattle.a2_debugger.specs.declared.order.Outcome.{Outcome}
-use Rattle.a2_debugger.specs.declared.order.Outcome.TheVariants.{Typed, KeysFull, Memory}
-use Rattle.a2_debugger.specs.declared.order.Order.TheVariants.{Step, Next, Out, Back, GoBackOver, Go, Until, GoBack, Watch, Who, Break, Clear, TypeKeys}
+use Rattle.a2_debugger.specs.declared.inspector_command.InspectorCommand.{InspectorCommand}
+use Rattle.a2_debugger.specs.declared.inspector_command.Outcome.{Outcome}
+use Rattle.a2_debugger.specs.declared.inspector_command.Outcome.TheVariants.{Typed, KeysFull, Memory}
+use Rattle.a2_debugger.specs.declared.inspector_command.InspectorCommand.TheVariants.{Step, Next, Out, Back, GoBackOver, Go, Until, GoBack, Watch, Who, Break, Clear, TypeKeys}
 use Rattle.a2_debugger.specs.declared.stops.Break.{Break as Breakpoint}
 use Rattle.a2_symbols.specs.declared.places.Span.{Span}
 use Rattle.a2_debugger.specs.declared.verbs.Verb.{Verb}
@@ -48,15 +48,15 @@ pub record GoesOn (seen : World → Bool) (most : ℕ) (old new : Track) : Type 
   pub advances : Advances seen old.course old.position (min (old.position + most) 100_000_000) new.position halt
 
 -- the run is at the position that was found, or where it was if none was found
-abbrev pub turned_to : Option ℕ → Track → Track
-turned_to None track = track
-turned_to (Some position) track = record track { position = position }
+abbrev pub moved_to : Option ℕ → Track → Track
+moved_to None track = track
+moved_to (Some position) track = record track { position = position }
 
 -- the run is at the latest earlier position where something is seen, or where it was if there is none
 pub record GoesBack (seen : World → Bool) (old new : Track) : Type 0 where
   pub found : Option ℕ
   pub newest : IsNewest seen old.course 0 old.position found
-  pub turned : new ≡ turned_to found old
+  pub turned : new ≡ moved_to found old
 
 -- keys were typed at a position
 abbrev pub with_keys_typed : List ℕ → Track → Track
@@ -90,7 +90,7 @@ GoesOut (Some entry) stop most old new = GoesOn (is_left entry.s stop) most old 
 -- the run is at the latest earlier position where no more routines are entered than now, or where it was if there is none
 abbrev pub GoesBackOver : Track → Track → Type 0
 GoesBackOver old new = (found : Option ℕ)
-    × IsNewestOutside old.course (length (entered old.course old.position)) old.position found × (new ≡ turned_to found old)
+    × IsNewestOutside old.course (length (entered old.course old.position)) old.position found × (new ≡ moved_to found old)
 
 -- the routine that was entered last
 abbrev pub innermost : List Entry → Option Entry
@@ -105,14 +105,14 @@ abbrev pub with_break : Breakpoint → List Breakpoint → List Breakpoint
 with_break b breaks = if nat_lt (length (others b.address breaks)) 64 then others b.address breaks ++ b ∷ [] else others b.address breaks
 
 -- a span is added, each one only once; there are at most 8
-abbrev pub unlike : Span → List Span → List Span
-unlike span watches = filter (λ w. not ((w.first == span.first) && (w.last == span.last))) watches
+abbrev pub without_span : Span → List Span → List Span
+without_span span watches = filter (λ w. not ((w.first == span.first) && (w.last == span.last))) watches
 
 abbrev pub with_watch : Span → List Span → List Span
-with_watch span watches = if nat_lt (length (unlike span watches)) 8 then unlike span watches ++ span ∷ [] else unlike span watches
+with_watch span watches = if nat_lt (length (without_span span watches)) 8 then without_span span watches ++ span ∷ [] else without_span span watches
 
 -- the effect of a command on the run, with these stops
-abbrev pub Moves : Order → (World → Bool) → ℕ → Track → Track → Type 0
+abbrev pub Moves : InspectorCommand → (World → Bool) → ℕ → Track → Track → Type 0
 Moves (Step n) stop most old new = GoesOn (λ world. false) n old new
 Moves Next stop most old new = GoesOver (is_call (here old)) (here old).registers.s stop most old new
 -- if memory runs out, the position is unchanged
@@ -127,18 +127,18 @@ Moves (TypeKeys keys) stop most old new = Types keys old new
 Moves order stop most old new = new ≡ old
 
 -- the effect of a command on the breakpoints and the watched spans
-abbrev pub breaks_by : Order → List Breakpoint → List Breakpoint
+abbrev pub breaks_by : InspectorCommand → List Breakpoint → List Breakpoint
 breaks_by (Break b) breaks = with_break b breaks
 breaks_by Clear breaks = []
 breaks_by order breaks = breaks
 
-abbrev pub watches_by : Order → List Span → List Span
+abbrev pub watches_by : InspectorCommand → List Span → List Span
 watches_by (Watch span) watches = with_watch span watches
 watches_by Clear watches = []
 watches_by order watches = watches
 
 -- a command was executed
-pub record IsDone (order : Order) (old new : Inspection) : Type 0 where
+pub record IsDone (order : InspectorCommand) (old new : Inspection) : Type 0 where
   pub program : new.program ≡ old.program
   pub moves : Moves order (is_stop old.breaks old.watches (here old.track)) old.most old.track new.track
   pub breaks : new.breaks ≡ breaks_by order old.breaks
@@ -147,25 +147,25 @@ pub record IsDone (order : Order) (old new : Inspection) : Type 0 where
   pub most : new.most ≡ old.most
 
 -- a line that is not blank was executed, or it holds no command and nothing changed
-abbrev pub IsObeyed : List ℕ → Inspection → Inspection → Type 0
-IsObeyed line old new =
+abbrev pub IsLineExecuted : List ℕ → Inspection → Inspection → Type 0
+IsLineExecuted line old new =
     let word = map capital (first_word line) in
     (((verb : Verb) → IsVerb word verb → ⊥) × (new ≡ old))
-    ⊎ ((verb : Verb) × IsVerb word verb × SaysNone old.program verb (behind_word line) × (new ≡ old))
-    ⊎ ((verb : Verb) × IsVerb word verb × ((order : Order) × Says old.program verb (behind_word line) order × IsDone order old new))
+    ⊎ ((verb : Verb) × IsVerb word verb × IsNoCommand old.program verb (after_first_word line) × (new ≡ old))
+    ⊎ ((verb : Verb) × IsVerb word verb × ((order : InspectorCommand) × IsCommandOf old.program verb (after_first_word line) order × IsDone order old new))
 
 -- the beginning of a line, which is the whole line unless it is too long
 abbrev pub front : List ℕ → List ℕ
 front line = take (min 255 (length line)) line
 
 -- the line to execute: this one, or the last one again if this one is blank
-abbrev pub meant : List ℕ → List ℕ → List ℕ
-meant line last = front (if length (words line) == 0 then last else line)
+abbrev pub line_to_run : List ℕ → List ℕ → List ℕ
+line_to_run line last = front (if length (words line) == 0 then last else line)
 
 -- the effect of a line, which is stored as the last one
 abbrev pub IsAnswered : List ℕ → Inspection → Inspection → Type 0
 IsAnswered line old new =
-    (obeyed : Inspection) × IsObeyed (meant line old.last) old obeyed × (new ≡ record obeyed { last = meant line old.last })
+    (obeyed : Inspection) × IsLineExecuted (line_to_run line old.last) old obeyed × (new ≡ record obeyed { last = line_to_run line old.last })
 
 -- a source's run at its start
 pub record IsBegun (free : Bool) (keys : List ℕ) (limit : ℕ) (assembled : Assembled) (new : Inspection) : Type 0 where

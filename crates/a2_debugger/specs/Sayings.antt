@@ -8,8 +8,8 @@ use Rattle.a2_symbols.specs.Places.{place_of, span_of}
 use Rattle.a2_debugger.specs.Stops.{watchable}
 use Rattle.a2_debugger.specs.Conditions.{break_in}
 use Rattle.a2_symbols.specs.declared.places.Span.{Span}
-use Rattle.a2_debugger.specs.declared.order.Order.{Order}
-use Rattle.a2_debugger.specs.declared.order.Order.TheVariants as order
+use Rattle.a2_debugger.specs.declared.inspector_command.InspectorCommand.{InspectorCommand}
+use Rattle.a2_debugger.specs.declared.inspector_command.InspectorCommand.TheVariants as order
 use Rattle.a2_debugger.specs.declared.verbs.Verb.{Verb}
 use Rattle.a2_debugger.specs.declared.verbs.Verb.TheVariants.{Step, Next, Out, Back, Rnext, Go, Until, Rback, Watch, Who, Break, Clear, Keys, Where, Regs, Print, Mem, Screen, List as Lines, Info, Help}
 
@@ -36,51 +36,51 @@ abbrev pub span_in : Assembled → List (List ℕ) → Option Span
 span_in program words = span_by_word program (only_word words)
 
 -- the text after one blank spells these keys
-abbrev pub SpellsBehind : List ℕ → List ℕ → Type 0
-SpellsBehind rest keys = (0 < length rest) × SpellsKeys (drop 1 rest) keys × (length keys ≤ 4096)
+abbrev pub SpellsAfterBlank : List ℕ → List ℕ → Type 0
+SpellsAfterBlank rest keys = (0 < length rest) × SpellsKeys (drop 1 rest) keys × (length keys ≤ 4096)
 
 -- the text spells no keys, or more than 4,096
-abbrev pub SpellsNoneBehind : List ℕ → Type 0
-SpellsNoneBehind rest = 0 < length rest → (keys : List ℕ) → SpellsKeys (drop 1 rest) keys → 4096 < length keys
+abbrev pub SpellsNoneAfterBlank : List ℕ → Type 0
+SpellsNoneAfterBlank rest = 0 < length rest → (keys : List ℕ) → SpellsKeys (drop 1 rest) keys → 4096 < length keys
 
 -- a verb and the text after it are this command; which of its showings a verb means is left open
-abbrev pub Says : Assembled → Verb → List ℕ → Order → Type 0
-Says program Step rest (order.Step n) = count_in (words rest) ≡ Some n
-Says program Back rest (order.Back n) = count_in (words rest) ≡ Some n
-Says program Next rest order.Next = words rest ≡ []
-Says program Out rest order.Out = words rest ≡ []
-Says program Rnext rest order.GoBackOver = words rest ≡ []
-Says program Go rest order.Go = words rest ≡ []
-Says program Until rest (order.Until address) = place_in program (words rest) ≡ Some address
-Says program Rback rest order.GoBack = words rest ≡ []
-Says program Watch rest (order.Watch span) = span_in program (words rest) ≡ Some span
-Says program Who rest (order.Who span) = span_in program (words rest) ≡ Some span
-Says program Break rest (order.Break b) = break_in program (words rest) ≡ Some b
-Says program Clear rest order.Clear = words rest ≡ []
-Says program Keys rest (order.TypeKeys keys) = SpellsBehind rest keys
-Says program Where rest (order.Show show) = Unit {0}
-Says program Regs rest (order.Show show) = Unit {0}
-Says program Print rest (order.Show show) = Unit {0}
-Says program Mem rest (order.Show show) = Unit {0}
-Says program Screen rest (order.Show show) = Unit {0}
-Says program Lines rest (order.Show show) = Unit {0}
-Says program Info rest (order.Show show) = Unit {0}
-Says program Help rest (order.Show show) = Unit {0}
-Says program verb rest order = ⊥
+abbrev pub IsCommandOf : Assembled → Verb → List ℕ → InspectorCommand → Type 0
+IsCommandOf program Step rest (order.Step n) = count_in (words rest) ≡ Some n
+IsCommandOf program Back rest (order.Back n) = count_in (words rest) ≡ Some n
+IsCommandOf program Next rest order.Next = words rest ≡ []
+IsCommandOf program Out rest order.Out = words rest ≡ []
+IsCommandOf program Rnext rest order.GoBackOver = words rest ≡ []
+IsCommandOf program Go rest order.Go = words rest ≡ []
+IsCommandOf program Until rest (order.Until address) = place_in program (words rest) ≡ Some address
+IsCommandOf program Rback rest order.GoBack = words rest ≡ []
+IsCommandOf program Watch rest (order.Watch span) = span_in program (words rest) ≡ Some span
+IsCommandOf program Who rest (order.Who span) = span_in program (words rest) ≡ Some span
+IsCommandOf program Break rest (order.Break b) = break_in program (words rest) ≡ Some b
+IsCommandOf program Clear rest order.Clear = words rest ≡ []
+IsCommandOf program Keys rest (order.TypeKeys keys) = SpellsAfterBlank rest keys
+IsCommandOf program Where rest (order.Show show) = Unit {0}
+IsCommandOf program Regs rest (order.Show show) = Unit {0}
+IsCommandOf program Print rest (order.Show show) = Unit {0}
+IsCommandOf program Mem rest (order.Show show) = Unit {0}
+IsCommandOf program Screen rest (order.Show show) = Unit {0}
+IsCommandOf program Lines rest (order.Show show) = Unit {0}
+IsCommandOf program Info rest (order.Show show) = Unit {0}
+IsCommandOf program Help rest (order.Show show) = Unit {0}
+IsCommandOf program verb rest order = ⊥
 
 -- they are not a command; why something cannot be shown is left open
-abbrev pub SaysNone : Assembled → Verb → List ℕ → Type 0
-SaysNone program Step rest = count_in (words rest) ≡ None
-SaysNone program Back rest = count_in (words rest) ≡ None
-SaysNone program Next rest = words rest ≢ []
-SaysNone program Out rest = words rest ≢ []
-SaysNone program Rnext rest = words rest ≢ []
-SaysNone program Go rest = words rest ≢ []
-SaysNone program Until rest = place_in program (words rest) ≡ None
-SaysNone program Rback rest = words rest ≢ []
-SaysNone program Watch rest = span_in program (words rest) ≡ None
-SaysNone program Who rest = span_in program (words rest) ≡ None
-SaysNone program Break rest = break_in program (words rest) ≡ None
-SaysNone program Clear rest = words rest ≢ []
-SaysNone program Keys rest = SpellsNoneBehind rest
-SaysNone program verb rest = Unit {0}
+abbrev pub IsNoCommand : Assembled → Verb → List ℕ → Type 0
+IsNoCommand program Step rest = count_in (words rest) ≡ None
+IsNoCommand program Back rest = count_in (words rest) ≡ None
+IsNoCommand program Next rest = words rest ≢ []
+IsNoCommand program Out rest = words rest ≢ []
+IsNoCommand program Rnext rest = words rest ≢ []
+IsNoCommand program Go rest = words rest ≢ []
+IsNoCommand program Until rest = place_in program (words rest) ≡ None
+IsNoCommand program Rback rest = words rest ≢ []
+IsNoCommand program Watch rest = span_in program (words rest) ≡ None
+IsNoCommand program Who rest = span_in program (words rest) ≡ None
+IsNoCommand program Break rest = break_in program (words rest) ≡ None
+IsNoCommand program Clear rest = words rest ≢ []
+IsNoCommand program Keys rest = SpellsNoneAfterBlank rest
+IsNoCommand program verb rest = Unit {0}

@@ -67,13 +67,13 @@ abbrev pub is_hit : Moment → Break → Bool
 is_hit moment b = (b.address == moment.pc) && holds b.condition moment
 
 -- both bytes exist and differ
-abbrev pub is_other : Option ℕ → Option ℕ → Bool
-is_other (Some one) (Some other) = not (one == other)
-is_other one other = false
+abbrev pub bytes_differ : Option ℕ → Option ℕ → Bool
+bytes_differ (Some one) (Some other) = not (one == other)
+bytes_differ one other = false
 
 -- the byte at an address has changed
 abbrev pub is_changed : ℕ → (ℕ → Option ℕ) → (ℕ → Option ℕ) → Bool
-is_changed address before now = is_other (now address) (before address)
+is_changed address before now = bytes_differ (now address) (before address)
 
 -- one of this many bytes from an address on has changed
 unfoldable pub is_changed_from : ℕ → ℕ → (ℕ → Option ℕ) → (ℕ → Option ℕ) → Bool

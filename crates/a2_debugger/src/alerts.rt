@@ -5,7 +5,7 @@ ghost use Rattle.std.specs.List.{list_any};
 ghost use Rattle.a2_machine.specs.State.{world_of_state};
 ghost use Rattle.a2_debugger.specs.Stops.{Moment, is_hit};
 ghost use Rattle.a2_debugger.specs.Alerts as alert;
-ghost use Rattle.a2_debugger.specs.Alerts.{is_marked, StandsCalm, IsCalm, MarksAllBut, AreAlerts};
+ghost use Rattle.a2_debugger.specs.Alerts.{is_marked, IsCalmStatement, IsCalm, MarksAllBut, AreAlerts};
 
 use crate::stops::{Break, ram_of};
 use a2_asm::{Program, Statement};
@@ -77,7 +77,7 @@ pub(crate) fn is_watched(watches: &[Span], address: u16) -> bool
 
 // Whether an instruction's operand is never at a watched address, whatever registers and memory hold.
 fn spares_operand(instr: Instr, watches: &[Span]) -> bool
-    ensures { result ≡ true → alert.SparesAt watches.now instr }
+    ensures { result ≡ true → alert.OperandNeverWatched watches.now instr }
 {
     match instr.mode {
         Mode::Accumulator => true,
@@ -89,7 +89,7 @@ fn spares_operand(instr: Instr, watches: &[Span]) -> bool
 // Whether an instruction never stores or pushes at a watched address, whatever registers and memory hold.
 #[tactic(auto, unfolding(a2_effect::specs::Effect::effect_of))]
 fn spares(instr: Instr, watches: &[Span]) -> bool
-    ensures { result ≡ true → alert.Spares watches.now instr }
+    ensures { result ≡ true → alert.NeverChangesWatched watches.now instr }
 {
     match instr.mnemonic {
         Mnemonic::Pha | Mnemonic::Php | Mnemonic::Jsr => false,
@@ -99,8 +99,8 @@ fn spares(instr: Instr, watches: &[Span]) -> bool
 }
 
 // The instruction encoded by a statement's bytes in the machine's memory.
-fn standing<A: Allocator>(statement: &Statement, machine: &Machine<A>) -> Option<Instr>
-    ensures { IfSome result (λ instr. alert.Stands (world_of_state machine.now.state).memory statement.now instr) }
+fn instruction_in_memory<A: Allocator>(statement: &Statement, machine: &Machine<A>) -> Option<Instr>
+    ensures { IfSome result (λ instr. alert.IsFetchedAt (world_of_state machine.now.state).memory statement.now instr) }
 {
     let first = usize::from(statement.addr);
     let bytes = ram_of(machine).get(first..first + usize::from(statement.length))?;
@@ -109,12 +109,12 @@ fn standing<A: Allocator>(statement: &Statement, machine: &Machine<A>) -> Option
 
 // Whether a statement is an instruction that never stores at a watched byte, and not a service.
 fn is_calm<A: Allocator>(statement: &Statement, machine: &Machine<A>, watches: &[Span]) -> bool
-    ensures { result ≡ true → StandsCalm watches.now (world_of_state machine.now.state).memory statement.now }
+    ensures { result ≡ true → IsCalmStatement watches.now (world_of_state machine.now.state).memory statement.now }
 {
     if statement.instr.is_none() || service_at(statement.addr).is_some() {
         return false;
     }
-    match standing(statement, machine) {
+    match instruction_in_memory(statement, machine) {
         Some(instr) => spares(instr, watches),
         None => false,
     }
@@ -129,7 +129,7 @@ fn calm<A: Allocator>(
 )
     requires { length marks.old ≡ 65536 }
     ensures { (address : ℕ) → is_marked marks.new address ≡ false → (is_marked marks.old address ≡ false)
-        ⊎ ((statement.now.addr ≡ address) × StandsCalm watches.now (world_of_state machine.now.state).memory statement.now) }
+        ⊎ ((statement.now.addr ≡ address) × IsCalmStatement watches.now (world_of_state machine.now.state).memory statement.now) }
 {
     if is_calm(statement, machine, watches) {
         marks[usize::from(statement.addr)] = false;

@@ -1,7 +1,7 @@
 //! Reports what a command changed.
 
 use crate::alerts::is_watched;
-use crate::sheet::{Sheet, Stand, byte_at, one_of};
+use crate::answer_sheet::{RunReport, Sheet, byte_at, one_of};
 use a2_cpu::Regs;
 use a2_hex::RAM_END;
 use a2_machine::Machine;
@@ -57,30 +57,35 @@ pub(crate) fn put_registers<A: Allocator>(before: Regs, now: Regs, sheet: &mut S
     sheet.put(b"\n");
 }
 
-// Prints the old and new value of a byte, after `behind` others.
-fn put_byte<A: Allocator>(stand: &Stand<A>, address: u16, behind: usize, sheet: &mut Sheet<A>) {
-    let next = one_of(behind % CHANGES_IN_LINE == 0, b"\nchanged: $", b" $");
-    let lead = one_of(behind == 0, b"changed: $", next);
+// Prints the old and new value of a byte, after `following` others.
+fn put_byte<A: Allocator>(
+    stand: &RunReport<A>,
+    address: u16,
+    following: usize,
+    sheet: &mut Sheet<A>,
+) {
+    let next = one_of(following % CHANGES_IN_LINE == 0, b"\nchanged: $", b" $");
+    let lead = one_of(following == 0, b"changed: $", next);
     let before = hex_pair(byte_at(stand.before, address));
     let now = hex_pair(byte_at(stand.machine, address));
     sheet.put_all(&[lead, &hex_word(address), b"=", &before, b"->", &now]);
 }
 
 // Prints the old and new values of the bytes at these addresses.
-fn put_bytes_at<A: Allocator>(stand: &Stand<A>, addresses: &[u16], sheet: &mut Sheet<A>) {
-    let mut behind = 0usize;
+fn put_bytes_at<A: Allocator>(stand: &RunReport<A>, addresses: &[u16], sheet: &mut Sheet<A>) {
+    let mut following = 0usize;
     for address in addresses {
-        put_byte(stand, *address, behind, sheet);
-        behind = behind.saturating_add(1);
+        put_byte(stand, *address, following, sheet);
+        following = following.saturating_add(1);
     }
-    if behind > 0 {
+    if following > 0 {
         sheet.put(b"\n");
     }
 }
 
 // Whether the change of a byte is reported with the screen. This holds for a character unless its glyph is the same, and not
 // for a byte of hi-res.
-fn is_on_screen<A: Allocator>(stand: &Stand<A>, address: u16) -> bool {
+fn is_on_screen<A: Allocator>(stand: &RunReport<A>, address: u16) -> bool {
     let switches = stand.machine.view().switches;
     let Some((page, row, _)) = cell(address) else {
         return false;
@@ -101,7 +106,7 @@ fn is_free<A: Allocator>(machine: &Machine<A>, address: u16) -> bool {
 /// Prints the watched bytes that changed. Of the other bytes that changed, prints the first few and the number of the rest;
 /// bytes that show on the screen and those in the unused part of the stack are left out. Comparing every byte of RAM takes most
 /// of the time of a stop.
-pub(crate) fn put_bytes<A: Allocator>(stand: &Stand<A>, sheet: &mut Sheet<A>) {
+pub(crate) fn put_bytes<A: Allocator>(stand: &RunReport<A>, sheet: &mut Sheet<A>) {
     let mut watched = ArrayVec::<u16, MOST_WATCHED>::new();
     let mut others = ArrayVec::<u16, MOST_CHANGES>::new();
     let mut number = 0usize;
@@ -131,7 +136,7 @@ fn screen_of<A: Allocator>(machine: &Machine<A>) -> Gathered {
 }
 
 /// Prints the lines of the screen that changed, each with its number, counted from 0, and without blanks at its end.
-pub(crate) fn put_screen_changes<A: Allocator>(stand: &Stand<A>, sheet: &mut Sheet<A>) {
+pub(crate) fn put_screen_changes<A: Allocator>(stand: &RunReport<A>, sheet: &mut Sheet<A>) {
     let (before, now) = (screen_of(stand.before), screen_of(stand.machine));
     let mut earlier = before.as_slice().split(|c| *c == b'\n');
     let mut number = 0u64;

@@ -78,10 +78,10 @@ fn condition_of<A: Allocator>(
 fn condition_in<A: Allocator>(program: &Program<A>, text: &[u8]) -> Option<Condition>
     ensures { result ≡ written.condition_in program.now (words text.now) }
 {
-    let (subject, behind) = first_word(text)?;
-    let (relation, behind) = first_word(behind)?;
-    let (value, behind) = first_word(behind)?;
-    match first_word(behind) {
+    let (subject, following) = first_word(text)?;
+    let (relation, following) = first_word(following)?;
+    let (value, following) = first_word(following)?;
+    match first_word(following) {
         Some(_) => None,
         None => condition_of(program, subject, relation, value),
     }
@@ -122,13 +122,13 @@ fn plain_break(address: Option<u16>) -> Option<Break>
 pub fn break_in<A: Allocator>(program: &Program<A>, text: &[u8]) -> Option<Break>
     ensures { result ≡ written.break_in program.now (words text.now) }
 {
-    let (place, behind) = first_word(text)?;
+    let (place, following) = first_word(text)?;
     let address = place_of(program, place);
-    let Some((word, behind)) = first_word(behind) else {
+    let Some((word, following)) = first_word(following) else {
         return plain_break(address);
     };
     if is_if(word) {
-        break_where(address, condition_in(program, behind))
+        break_where(address, condition_in(program, following))
     } else {
         None
     }

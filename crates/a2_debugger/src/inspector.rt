@@ -3,17 +3,15 @@
 ghost use Rattle.std.specs.Prelude.{◌≡◌, ◌==◌, ◌&&◌, ◌⊎◌, ◌-◌, ℕ, List, false, IfOk, IfErr};
 ghost use Rattle.a2_stream.specs.Stream.{SendsOrBreaks};
 ghost use Rattle.a2_machine.specs.State.{world_of_state};
-ghost use Rattle.a2_history.specs.Going.{here, Warns};
+ghost use Rattle.a2_history.specs.Going.{here, AlarmsAreComplete};
 ghost use Rattle.a2_history.specs.Routines.{entered};
 ghost use Rattle.a2_symbols.specs.Routines.{is_call as is_call_of};
-ghost use Rattle.a2_asm.specs.Assembled.{Assembled};
-ghost use Rattle.a2_run.specs.Meaning.{IsProgramOf};
-ghost use Rattle.a2_run.specs.Started.{RefusesText, guard_of_run};
+ghost use Rattle.a2_run.specs.Started.{guard_of_run};
 ghost use Rattle.a2_debugger.specs.Alerts.{WarnsOfStops};
 ghost use Rattle.a2_debugger.specs.Stops.{is_stop, is_changed_in};
 ghost use Rattle.a2_debugger.specs.Inspections.{
   IsDone,
-  IsObeyed,
+  IsLineExecuted,
   IsAnswered,
   IsBegun,
   is_at,
@@ -26,33 +24,33 @@ ghost use Rattle.a2_debugger.specs.Inspections.{
   is_left,
   innermost,
   others,
-  unlike,
+  without_span,
   with_break,
   with_watch,
   front,
-  meant,
+  line_to_run,
 };
 
 mod replay;
 
 use crate::alerts::Marks;
-use crate::order::{Order, Outcome, Show};
+use crate::answer_sheet::{Detail, RunReport, report};
+use crate::inspector_command::{InspectorCommand, Outcome, Show};
 use crate::reading::order_of;
-use crate::sheet::{Detail, Stand, tell};
 use crate::sights::{Alarm, At, Changed, Left, Stops};
 use crate::stops::Break;
 use crate::verbs::verb_of;
 use a2_asm::Program;
 use a2_bus::Keys;
-use a2_history::{Entry, Halt, History, Lookout, Nothing, Sight, TypingFault, is_call};
+use a2_history::{Entry, Halt, History, Lookout, Nothing, SearchTarget, TypingFault, is_call};
 use a2_machine::{Cause, Machine};
-use a2_run::{RunFault, program_of, started};
+use a2_run::{AssembledText, RunArgs, started};
 use a2_stream::{Output, WriteFault};
 use a2_symbols::{Scene, Span};
 use a2_text::{cut, first_word, split_word};
 use a2_tty::Partner;
 use arrayvec::ArrayVec;
-use std::alloc::{Allocator, Global};
+use std::alloc::{AllocError, Allocator, Global};
 use std::marker::Model;
 
 // The greatest length of a line in bytes.
@@ -134,14 +132,14 @@ impl<'a, A: Allocator> Model for Inspector<'a, A> {
 }
 
 // Executes at most this many steps, in bursts, until the sight is seen.
-fn go_on<A: Allocator + Copy, S: Sight, L: Lookout>(
+fn go_on<A: Allocator + Copy, S: SearchTarget, L: Lookout>(
     history: &mut History<A>,
     most: u32,
     sight: &S,
     lookout: &L,
 ) -> Outcome
-    requires { Warns (S.is_seen sight.now) (L.alarms lookout.now) history.old.course history.old.position }
-    ensures { GoesOn (S.is_seen sight.now) most history.old history.new }
+    requires { AlarmsAreComplete (S.is_found_in sight.now) (L.alarms lookout.now) history.old.course history.old.position }
+    ensures { GoesOn (S.is_found_in sight.now) most history.old history.new }
 {
     match history.advance(most, sight, lookout) {
         Halt::Seen => Outcome::Moved,
@@ -169,8 +167,8 @@ fn back<A: Allocator + Copy>(history: &mut History<A>, steps: u16) -> Outcome
 }
 
 // Goes back to the latest earlier position where the sight is seen.
-fn go_back<A: Allocator + Copy, S: Sight>(history: &mut History<A>, sight: &S) -> Outcome
-    ensures { GoesBack (S.is_seen sight.now) history.old history.new }
+fn go_back<A: Allocator + Copy, S: SearchTarget>(history: &mut History<A>, sight: &S) -> Outcome
+    ensures { GoesBack (S.is_found_in sight.now) history.old history.new }
 {
     match history.newest(sight) {
         Some(position) => {
@@ -364,8 +362,8 @@ fn are_alike(one: &Span, other: Span) -> bool
 }
 
 // Stops watching these addresses.
-fn forget(watches: &mut Watches, span: Span)
-    ensures { watches.new.items ≡ unlike span watches.old.items }
+fn unwatch(watches: &mut Watches, span: Span)
+    ensures { watches.new.items ≡ without_span span watches.old.items }
 {
     watches.retain(|watched| !are_alike(watched, span));
 }
@@ -374,7 +372,7 @@ fn forget(watches: &mut Watches, span: Span)
 fn watch(watches: &mut Watches, span: Span) -> Outcome
     ensures { watches.new.items ≡ with_watch span watches.old.items }
 {
-    forget(watches, span);
+    unwatch(watches, span);
     if watches.len() < MOST_WATCHES {
         watches.push(span);
         return Outcome::Watched(span);
@@ -393,8 +391,8 @@ fn line_of(bytes: &[u8]) -> Line
 }
 
 // The line to execute: this one, or the last one again if this one is blank.
-fn meant_by(line: &[u8], last: &Line) -> Line
-    ensures { result.items ≡ meant line.now last.now.items }
+fn line_to_execute(line: &[u8], last: &Line) -> Line
+    ensures { result.items ≡ line_to_run line.now last.now.items }
 {
     if first_word(line).is_none() {
         line_of(last.as_slice())
@@ -404,23 +402,20 @@ fn meant_by(line: &[u8], last: &Line) -> Line
 }
 
 impl<'a, A: Allocator + Copy> Inspector<'a, A> {
-    /// Returns the run of `source` at its start, with these keys waiting, guarded or `free`. `go` and `until` execute at most
-    /// `most` steps each. At most `kept` copies of the machine are kept, about 124,000 bytes each: with more copies, fewer
-    /// steps are replayed when the run goes back. Fails if the source has errors or memory runs out.
+    /// Returns a debugger at the start of this run of a source. `run.limit` is the most steps of one line, such as `go` or `until`. At
+    /// most `kept` copies of the machine are kept on the way, each of about 124,000 bytes: the more there are, the fewer steps are
+    /// repeated when the run goes back. Fails only if there is not enough memory.
     pub fn new(
         alloc: A,
-        source: &'a [u8],
-        keys: &Keys,
-        free: bool,
-        most: u32,
+        assembled: AssembledText<'a, A>,
+        run: RunArgs<'_>,
         kept: usize,
-    ) -> Result<Inspector<'a, A>, RunFault>
-        ensures begun { IfOk result (λ i. (program : Assembled) × IsProgramOf source.now program
-            × IsBegun free keys.now most program i) }
-        ensures refused { IfErr result (λ fault. RefusesText source.now fault) }
+    ) -> Result<Inspector<'a, A>, AllocError>
+        ensures { IfOk result (λ i. IsBegun run.entry.free run.entry.keys.now run.entry.limit assembled.entry.program i) }
     {
-        let program = program_of(alloc, source)?;
-        let lines = cut(alloc, source)?;
+        let RunArgs { keys, limit, free } = run;
+        let lines = cut(alloc, assembled.text())?;
+        let program = assembled.into_program();
         let machine = started(alloc, &program, keys, free)?;
         let before = Machine::for_copies(alloc)?;
         let marks = Marks::new(alloc)?;
@@ -436,13 +431,13 @@ impl<'a, A: Allocator + Copy> Inspector<'a, A> {
             breaks: Breaks::new(),
             watches: Watches::new(),
             last: Line::new(),
-            most,
+            most: limit,
             detail: Detail::Full,
         })
     }
 
     // Executes a command.
-    fn perform(&mut self, order: Order) -> Outcome
+    fn execute_command(&mut self, order: InspectorCommand) -> Outcome
         ensures { IsDone order self.old self.new }
     {
         note(&mut self.before, &self.history);
@@ -453,39 +448,39 @@ impl<'a, A: Allocator + Copy> Inspector<'a, A> {
         };
         let (program, free) = (&self.program, self.free);
         match order {
-            Order::Step(steps) => step(&mut self.history, steps),
-            Order::Next => {
+            InspectorCommand::Step(steps) => step(&mut self.history, steps),
+            InspectorCommand::Next => {
                 mark(&mut self.marks, free, program, &self.history, stops);
                 next(&mut self.history, self.most, &self.marks, stops)
             }
-            Order::Out => {
+            InspectorCommand::Out => {
                 mark(&mut self.marks, free, program, &self.history, stops);
                 out(&mut self.history, self.most, &self.marks, stops)
             }
-            Order::Back(steps) => back(&mut self.history, steps),
-            Order::GoBackOver => go_back_over(&mut self.history),
-            Order::Go => {
+            InspectorCommand::Back(steps) => back(&mut self.history, steps),
+            InspectorCommand::GoBackOver => go_back_over(&mut self.history),
+            InspectorCommand::Go => {
                 mark(&mut self.marks, free, program, &self.history, stops);
                 go(&mut self.history, self.most, &self.marks, stops)
             }
-            Order::Until(address) => until(&mut self.history, self.most, address),
-            Order::GoBack => go_back_to_stop(&mut self.history, stops),
-            Order::Who(span) => who(&mut self.history, span, stops.before),
-            Order::Watch(span) => watch(&mut self.watches, span),
-            Order::Break(place) => set(&mut self.breaks, place),
-            Order::Clear => {
+            InspectorCommand::Until(address) => until(&mut self.history, self.most, address),
+            InspectorCommand::GoBack => go_back_to_stop(&mut self.history, stops),
+            InspectorCommand::Who(span) => who(&mut self.history, span, stops.before),
+            InspectorCommand::Watch(span) => watch(&mut self.watches, span),
+            InspectorCommand::Break(place) => set(&mut self.breaks, place),
+            InspectorCommand::Clear => {
                 self.breaks.clear();
                 self.watches.clear();
                 Outcome::Cleared
             }
-            Order::TypeKeys(keys) => type_keys(&mut self.history, keys),
-            Order::Show(show) => Outcome::Shown(show),
+            InspectorCommand::TypeKeys(keys) => type_keys(&mut self.history, keys),
+            InspectorCommand::Show(show) => Outcome::Shown(show),
         }
     }
 
     // Executes a line that is not blank.
-    fn obey(&mut self, line: &[u8]) -> Outcome
-        ensures { IsObeyed line.now self.old self.new }
+    fn execute_line(&mut self, line: &[u8]) -> Outcome
+        ensures { IsLineExecuted line.now self.old self.new }
     {
         let (word, rest) = split_word(line);
         if word.is_empty() {
@@ -495,7 +490,7 @@ impl<'a, A: Allocator + Copy> Inspector<'a, A> {
             return Outcome::NoWord;
         };
         match order_of(&self.program, verb, rest) {
-            Some(order) => self.perform(order),
+            Some(order) => self.execute_command(order),
             None => Outcome::Refused(verb),
         }
     }
@@ -529,11 +524,11 @@ impl<A: Allocator + Copy> Inspector<'_, A> {
         ensures { (text : List ℕ) × IsAnswered line.now self.old self.new
             × SendsOrBreaks (W.taker writer.old) (W.taker writer.new) result text }
     {
-        let line = meant_by(line, &self.last);
-        let outcome = self.obey(line.as_slice());
+        let line = line_to_execute(line, &self.last);
+        let outcome = self.execute_line(line.as_slice());
         self.last = line;
         let (outcome, entries) = with_entries(self.alloc, &mut self.history, outcome);
-        let stand = Stand {
+        let stand = RunReport {
             scene: Scene {
                 program: &self.program,
                 lines: self.lines.as_slice(),
@@ -546,7 +541,7 @@ impl<A: Allocator + Copy> Inspector<'_, A> {
             most: self.most,
             detail,
         };
-        tell(self.alloc, &stand, outcome, writer)
+        report(self.alloc, &stand, outcome, writer)
     }
 
     /// Answers a line for a caller that shows the source and the screen itself: the report of a stop contains neither.
@@ -574,7 +569,7 @@ impl<A: Allocator + Copy> Partner for Inspector<'_, A> {
 
 impl<A: Allocator> Inspector<'_, A> {
     /// Leaves source lines out of all later answers, except the answer to `list`, which asks for them.
-    pub fn tell_plainly(&mut self)
+    pub fn hide_source_lines(&mut self)
         ensures { self.new ≡ self.old }
     {
         self.detail = Detail::Plain;

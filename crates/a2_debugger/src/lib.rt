@@ -4,12 +4,12 @@
 #![tactic(auto)]
 
 mod alerts;
+mod answer_sheet;
 mod changes;
 mod conditions;
 mod inspector;
-mod order;
+mod inspector_command;
 mod reading;
-mod sheet;
 mod sights;
 mod stops;
 mod verbs;

@@ -2,11 +2,11 @@
 
 ghost use Rattle.std.specs.Prelude.{◌≡◌, ◌≢◌, None, Some, MatchOption, IfSome, IfNone, []};
 ghost use Rattle.a2_text.specs.Words.{words};
-ghost use Rattle.a2_debugger.specs.Sayings.{Says, SaysNone, count_in as count_of, place_in as place_of_words};
-ghost use Rattle.a2_debugger.specs.Sayings.{span_in as span_of_words, SpellsBehind, SpellsNoneBehind};
+ghost use Rattle.a2_debugger.specs.Sayings.{IsCommandOf, IsNoCommand, count_in as count_of, place_in as place_of_words};
+ghost use Rattle.a2_debugger.specs.Sayings.{span_in as span_of_words, SpellsAfterBlank, SpellsNoneAfterBlank};
 
 use crate::conditions::{break_in, register_of};
-use crate::order::{Order, Show};
+use crate::inspector_command::{InspectorCommand, Show};
 use crate::stops::watchable;
 use crate::verbs::Verb;
 use a2_asm::Program;
@@ -19,10 +19,10 @@ use std::alloc::Allocator;
 fn count_in(text: &[u8]) -> Option<u16>
     ensures { result ≡ count_of (words text.now) }
 {
-    let Some((word, behind)) = first_word(text) else {
+    let Some((word, following)) = first_word(text) else {
         return Some(1);
     };
-    match first_word(behind) {
+    match first_word(following) {
         Some(_) => None,
         None => number_in(10, 5, word),
     }
@@ -44,8 +44,8 @@ fn span_in<A: Allocator>(program: &Program<A>, text: &[u8]) -> Option<Span>
 
 // The keys spelled after the one blank.
 fn keys_in(rest: &[u8]) -> Option<Keys>
-    ensures some { IfSome result (λ keys. SpellsBehind rest.now keys) }
-    ensures none { IfNone result (SpellsNoneBehind rest.now) }
+    ensures some { IfSome result (λ keys. SpellsAfterBlank rest.now keys) }
+    ensures none { IfNone result (SpellsNoneAfterBlank rest.now) }
 {
     let (_, text) = rest.split_first()?;
     let Ok(text) = std::str::from_utf8(text) else {
@@ -72,7 +72,7 @@ fn bytes_in<A: Allocator>(program: &Program<A>, rest: &[u8]) -> Option<Show> {
 }
 
 // The command of a word that takes no arguments.
-fn alone(order: Order, rest: &[u8]) -> Option<Order>
+fn alone(order: InspectorCommand, rest: &[u8]) -> Option<InspectorCommand>
     ensures { MatchOption result (words rest.now ≢ []) (λ said. (said ≡ order) × (words rest.now ≡ [])) }
 {
     match first_word(rest) {
@@ -82,30 +82,34 @@ fn alone(order: Order, rest: &[u8]) -> Option<Order>
 }
 
 /// Returns the command given by a verb and the text after it, or `None` if the text is not valid.
-pub fn order_of<A: Allocator>(program: &Program<A>, verb: Verb, rest: &[u8]) -> Option<Order>
-    ensures { MatchOption result (SaysNone program.now verb rest.now) (λ order. Says program.now verb rest.now order) }
+pub fn order_of<A: Allocator>(
+    program: &Program<A>,
+    verb: Verb,
+    rest: &[u8],
+) -> Option<InspectorCommand>
+    ensures { MatchOption result (IsNoCommand program.now verb rest.now) (λ order. IsCommandOf program.now verb rest.now order) }
 {
     match verb {
-        Verb::Step => Some(Order::Step(count_in(rest)?)),
-        Verb::Back => Some(Order::Back(count_in(rest)?)),
-        Verb::Until => Some(Order::Until(place_in(program, rest)?)),
-        Verb::Watch => Some(Order::Watch(span_in(program, rest)?)),
-        Verb::Who => Some(Order::Who(span_in(program, rest)?)),
-        Verb::Break => Some(Order::Break(break_in(program, rest)?)),
-        Verb::Keys => Some(Order::TypeKeys(keys_in(rest)?)),
-        Verb::Print => Some(Order::Show(value_in(program, rest)?)),
-        Verb::Mem => Some(Order::Show(bytes_in(program, rest)?)),
-        Verb::Next => alone(Order::Next, rest),
-        Verb::Out => alone(Order::Out, rest),
-        Verb::Rnext => alone(Order::GoBackOver, rest),
-        Verb::Go => alone(Order::Go, rest),
-        Verb::Rback => alone(Order::GoBack, rest),
-        Verb::Clear => alone(Order::Clear, rest),
-        Verb::Where => alone(Order::Show(Show::Place), rest),
-        Verb::Regs => alone(Order::Show(Show::Registers), rest),
-        Verb::Screen => alone(Order::Show(Show::Screen), rest),
-        Verb::List => alone(Order::Show(Show::Lines), rest),
-        Verb::Info => alone(Order::Show(Show::Stops), rest),
-        Verb::Help => alone(Order::Show(Show::Help), rest),
+        Verb::Step => Some(InspectorCommand::Step(count_in(rest)?)),
+        Verb::Back => Some(InspectorCommand::Back(count_in(rest)?)),
+        Verb::Until => Some(InspectorCommand::Until(place_in(program, rest)?)),
+        Verb::Watch => Some(InspectorCommand::Watch(span_in(program, rest)?)),
+        Verb::Who => Some(InspectorCommand::Who(span_in(program, rest)?)),
+        Verb::Break => Some(InspectorCommand::Break(break_in(program, rest)?)),
+        Verb::Keys => Some(InspectorCommand::TypeKeys(keys_in(rest)?)),
+        Verb::Print => Some(InspectorCommand::Show(value_in(program, rest)?)),
+        Verb::Mem => Some(InspectorCommand::Show(bytes_in(program, rest)?)),
+        Verb::Next => alone(InspectorCommand::Next, rest),
+        Verb::Out => alone(InspectorCommand::Out, rest),
+        Verb::Rnext => alone(InspectorCommand::GoBackOver, rest),
+        Verb::Go => alone(InspectorCommand::Go, rest),
+        Verb::Rback => alone(InspectorCommand::GoBack, rest),
+        Verb::Clear => alone(InspectorCommand::Clear, rest),
+        Verb::Where => alone(InspectorCommand::Show(Show::Place), rest),
+        Verb::Regs => alone(InspectorCommand::Show(Show::Registers), rest),
+        Verb::Screen => alone(InspectorCommand::Show(Show::Screen), rest),
+        Verb::List => alone(InspectorCommand::Show(Show::Lines), rest),
+        Verb::Info => alone(InspectorCommand::Show(Show::Stops), rest),
+        Verb::Help => alone(InspectorCommand::Show(Show::Help), rest),
     }
 }

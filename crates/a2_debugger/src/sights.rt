@@ -2,8 +2,8 @@
 
 use crate::alerts::Alerts;
 use crate::stops::{Break, Moment, are_changed, is_at_break, is_changed_in, ram_of};
-use a2_burst::Look;
-use a2_history::{Lookout, Sight};
+use a2_burst::StepView;
+use a2_history::{Lookout, SearchTarget};
 use a2_machine::Machine;
 use a2_symbols::Span;
 use std::alloc::Allocator;
@@ -14,12 +14,12 @@ pub struct At {
     pub address: u16,
 }
 
-impl Sight for At {
+impl SearchTarget for At {
     ghost use Rattle.std.specs.Prelude.{◌==◌};
 
-    ghost is_seen = { λ at world. world.registers.pc == at.address };
+    ghost is_found_in = { λ at world. world.registers.pc == at.address };
 
-    fn is_seen<A: Allocator>(&self, machine: &Machine<A>) -> bool {
+    fn is_found_in<A: Allocator>(&self, machine: &Machine<A>) -> bool {
         machine.regs().pc == self.address
     }
 }
@@ -30,7 +30,7 @@ impl Lookout for At {
     ghost alarms = { λ at shown. shown.look.next_pc == at.address };
 
     #[inline(always)]
-    fn alarms(&self, look: Look, _ram: &[u8]) -> bool {
+    fn alarms(&self, look: StepView, _ram: &[u8]) -> bool {
         look.next_pc == self.address
     }
 }
@@ -43,13 +43,13 @@ pub struct Stops<'a, B: Allocator> {
     pub before: &'a Machine<B>,
 }
 
-impl<B: Allocator> Sight for Stops<'_, B> {
+impl<B: Allocator> SearchTarget for Stops<'_, B> {
     ghost use Rattle.a2_machine.specs.State.{world_of_state};
     ghost use Rattle.a2_debugger.specs.Stops.{is_stop};
 
-    ghost is_seen = { λ stops world. is_stop stops.breaks.now stops.watches.now (world_of_state stops.before.now.state) world };
+    ghost is_found_in = { λ stops world. is_stop stops.breaks.now stops.watches.now (world_of_state stops.before.now.state) world };
 
-    fn is_seen<A: Allocator>(&self, machine: &Machine<A>) -> bool {
+    fn is_found_in<A: Allocator>(&self, machine: &Machine<A>) -> bool {
         is_at_break(self.breaks, &Moment::of(machine))
             || are_changed(self.watches, ram_of(self.before), ram_of(machine))
     }
@@ -68,22 +68,22 @@ impl<B: Allocator> Alarm<'_, B> {
     ghost use Rattle.std.specs.List.{list_any};
     ghost use Rattle.a2_bus.specs.Memory.{peek};
     ghost use Rattle.a2_machine.specs.State.{world_of_state};
-    ghost use Rattle.a2_debugger.specs.Alerts.{is_marked, moment_behind};
+    ghost use Rattle.a2_debugger.specs.Alerts.{is_marked, moment_after};
     ghost use Rattle.a2_debugger.specs.Stops.{is_hit, is_span_changed};
 
     // Whether a step reaches a breakpoint whose condition holds.
     #[inline(always)]
-    fn comes_to_break(&self, look: Look, ram: &[u8]) -> bool
+    fn reaches_break(&self, look: StepView, ram: &[u8]) -> bool
         ensures { result ≡ (is_marked self.now.alerts.stops look.next_pc
-            && list_any (is_hit (moment_behind (record { look = look; ram = slice_get ram.now }))) self.now.stops.breaks.now) }
+            && list_any (is_hit (moment_after (record { look = look; ram = slice_get ram.now }))) self.now.stops.breaks.now) }
     {
         self.alerts.has_stop(look.next_pc)
-            && is_at_break(self.stops.breaks, &Moment::behind(look, ram))
+            && is_at_break(self.stops.breaks, &Moment::following(look, ram))
     }
 
     // Whether a step may have stored and a watched byte differs after it.
     #[inline(always)]
-    fn leaves_change(&self, look: Look, ram: &[u8]) -> bool
+    fn changed_watched(&self, look: StepView, ram: &[u8]) -> bool
         ensures { result ≡ (is_marked self.now.alerts.stores look.pc
             && list_any (is_span_changed (peek (world_of_state self.now.stops.before.now.state).memory) (slice_get ram.now))
             self.now.stops.watches.now) }
@@ -101,8 +101,8 @@ impl<B: Allocator> Lookout for Alarm<'_, B> {
         (world_of_state alarm.stops.before.now.state) shown };
 
     #[inline(always)]
-    fn alarms(&self, look: Look, ram: &[u8]) -> bool {
-        self.comes_to_break(look, ram) || self.leaves_change(look, ram)
+    fn alarms(&self, look: StepView, ram: &[u8]) -> bool {
+        self.reaches_break(look, ram) || self.changed_watched(look, ram)
     }
 }
 
@@ -113,16 +113,16 @@ pub struct Left<'a, B: Allocator> {
     pub alarm: Alarm<'a, B>,
 }
 
-impl<B: Allocator> Sight for Left<'_, B> {
+impl<B: Allocator> SearchTarget for Left<'_, B> {
     ghost use Rattle.a2_machine.specs.State.{world_of_state};
     ghost use Rattle.a2_debugger.specs.Stops.{is_stop};
     ghost use Rattle.a2_debugger.specs.Inspections.{is_left};
 
-    ghost is_seen = { λ left world. is_left left.s (is_stop left.alarm.stops.breaks.now left.alarm.stops.watches.now
+    ghost is_found_in = { λ left world. is_left left.s (is_stop left.alarm.stops.breaks.now left.alarm.stops.watches.now
         (world_of_state left.alarm.stops.before.now.state)) world };
 
-    fn is_seen<A: Allocator>(&self, machine: &Machine<A>) -> bool {
-        machine.regs().s >= self.s || self.alarm.stops.is_seen(machine)
+    fn is_found_in<A: Allocator>(&self, machine: &Machine<A>) -> bool {
+        machine.regs().s >= self.s || self.alarm.stops.is_found_in(machine)
     }
 }
 
@@ -135,7 +135,7 @@ impl<B: Allocator> Lookout for Left<'_, B> {
         left.alarm.stops.watches.now (world_of_state left.alarm.stops.before.now.state) shown };
 
     #[inline(always)]
-    fn alarms(&self, look: Look, ram: &[u8]) -> bool {
+    fn alarms(&self, look: StepView, ram: &[u8]) -> bool {
         look.next_s >= self.s || self.alarm.alarms(look, ram)
     }
 }
@@ -147,13 +147,13 @@ pub struct Changed<'a, B: Allocator> {
     pub before: &'a Machine<B>,
 }
 
-impl<B: Allocator> Sight for Changed<'_, B> {
+impl<B: Allocator> SearchTarget for Changed<'_, B> {
     ghost use Rattle.a2_machine.specs.State.{world_of_state};
     ghost use Rattle.a2_debugger.specs.Stops.{is_changed_in as is_changed_in_of};
 
-    ghost is_seen = { λ changed world. is_changed_in_of (world_of_state changed.before.now.state) world changed.span };
+    ghost is_found_in = { λ changed world. is_changed_in_of (world_of_state changed.before.now.state) world changed.span };
 
-    fn is_seen<A: Allocator>(&self, machine: &Machine<A>) -> bool {
+    fn is_found_in<A: Allocator>(&self, machine: &Machine<A>) -> bool {
         is_changed_in(&self.span, ram_of(self.before), ram_of(machine))
     }
 }

@@ -4,10 +4,10 @@ ghost use Rattle.std.specs.Prelude.{◌≡◌, ◌||◌, slice_get};
 ghost use Rattle.std.specs.List.{list_any};
 ghost use Rattle.a2_bus.specs.Memory.{peek};
 ghost use Rattle.a2_machine.specs.State.{world_of_state};
-ghost use Rattle.a2_debugger.specs.Alerts.{told, moment_behind};
+ghost use Rattle.a2_debugger.specs.Alerts.{moment_of_declared, moment_after};
 ghost use Rattle.a2_debugger.specs.Stops as stop;
 
-use a2_burst::Look;
+use a2_burst::StepView;
 use a2_machine::Machine;
 use a2_symbols::Span;
 use std::alloc::Allocator;
@@ -76,7 +76,7 @@ pub struct Moment<'a> {
 impl<'a> Moment<'a> {
     /// Returns the state of a machine.
     pub fn of<A: Allocator>(machine: &'a Machine<A>) -> Moment<'a>
-        ensures { told result ≡ stop.moment_of (world_of_state machine.now.state) }
+        ensures { moment_of_declared result ≡ stop.moment_of (world_of_state machine.now.state) }
     {
         let regs = machine.regs();
         Moment {
@@ -92,8 +92,8 @@ impl<'a> Moment<'a> {
 
     /// Returns the state after a step, as an observer is shown it.
     #[inline(always)]
-    pub fn behind(look: Look, ram: &'a [u8]) -> Moment<'a>
-        ensures { told result ≡ moment_behind (record { look = look; ram = slice_get ram.now }) }
+    pub fn following(look: StepView, ram: &'a [u8]) -> Moment<'a>
+        ensures { moment_of_declared result ≡ moment_after (record { look = look; ram = slice_get ram.now }) }
     {
         Moment {
             pc: look.next_pc,
@@ -123,7 +123,7 @@ fn byte_at(ram: &[u8], address: u16) -> Option<u8>
 
 /// Returns the value of a register.
 pub fn in_register(register: Register, moment: &Moment) -> u8
-    ensures { result ≡ stop.in_register register (told moment.now) }
+    ensures { result ≡ stop.in_register register (moment_of_declared moment.now) }
 {
     match register {
         Register::A => moment.a,
@@ -136,7 +136,7 @@ pub fn in_register(register: Register, moment: &Moment) -> u8
 
 // The value of a condition's subject, if there is such a byte.
 fn value_of(subject: Subject, moment: &Moment) -> Option<u8>
-    ensures { result ≡ stop.value_of subject (told moment.now) }
+    ensures { result ≡ stop.value_of subject (moment_of_declared moment.now) }
 {
     match subject {
         Subject::InRegister(register) => Some(in_register(register, moment)),
@@ -159,7 +159,7 @@ fn compares(relation: Relation, value: u8, than: u16) -> bool
 
 // Whether a condition holds, if there is one.
 fn holds(condition: Option<Condition>, moment: &Moment) -> bool
-    ensures { result ≡ stop.holds condition (told moment.now) }
+    ensures { result ≡ stop.holds condition (moment_of_declared moment.now) }
 {
     let Some(condition) = condition else {
         return true;
@@ -172,14 +172,14 @@ fn holds(condition: Option<Condition>, moment: &Moment) -> bool
 
 // Whether PC is at a breakpoint and its condition holds.
 fn is_hit(place: &Break, moment: &Moment) -> bool
-    ensures { result ≡ stop.is_hit (told moment.now) place.now }
+    ensures { result ≡ stop.is_hit (moment_of_declared moment.now) place.now }
 {
     place.address == moment.pc && holds(place.condition, moment)
 }
 
 // Whether both bytes exist and differ.
-fn is_other(one: Option<u8>, other: Option<u8>) -> bool
-    ensures { result ≡ stop.is_other one other }
+fn bytes_differ(one: Option<u8>, other: Option<u8>) -> bool
+    ensures { result ≡ stop.bytes_differ one other }
 {
     match (one, other) {
         (Some(one), Some(other)) => one != other,
@@ -191,7 +191,7 @@ fn is_other(one: Option<u8>, other: Option<u8>) -> bool
 fn is_changed_too(was: bool, address: u16, before: &[u8], ram: &[u8]) -> bool
     ensures { result ≡ (was || stop.is_changed address (slice_get before.now) (slice_get ram.now)) }
 {
-    was || is_other(byte_at(ram, address), byte_at(before, address))
+    was || bytes_differ(byte_at(ram, address), byte_at(before, address))
 }
 
 /// Returns whether one of these bytes of RAM has changed.
@@ -208,7 +208,7 @@ pub fn is_changed_in(span: &Span, before: &[u8], ram: &[u8]) -> bool
 
 /// Returns whether PC is at one of these breakpoints and its condition holds.
 pub fn is_at_break(breaks: &[Break], moment: &Moment) -> bool
-    ensures { result ≡ list_any (stop.is_hit (told moment.now)) breaks.now }
+    ensures { result ≡ list_any (stop.is_hit (moment_of_declared moment.now)) breaks.now }
 {
     breaks.iter().any(|place| is_hit(place, moment))
 }

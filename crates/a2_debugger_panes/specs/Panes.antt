@@ -8,5 +8,5 @@ abbrev pub IsPanes : List ℕ → Type 0
 IsPanes line = map capital line ≡ codes "PANES"
 
 -- opening and closing changes nothing; any other line has the same effect as without panes
-abbrev pub IsPaned : List ℕ → Inspection → Inspection → Type 0
-IsPaned line old new = (IsPanes line × (new ≡ old)) ⊎ ((IsPanes line → ⊥) × IsAnswered line old new)
+abbrev pub IsShownInPanes : List ℕ → Inspection → Inspection → Type 0
+IsShownInPanes line old new = (IsPanes line × (new ≡ old)) ⊎ ((IsPanes line → ⊥) × IsAnswered line old new)

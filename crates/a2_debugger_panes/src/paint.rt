@@ -121,7 +121,7 @@ fn byte_at(machine: &Machine, address: u16) -> u8 {
 fn put_instruction(canvas: &mut Canvas<'_>, machine: &Machine) {
     let pc = machine.regs().pc;
     if machine.peek(pc).is_none() {
-        canvas.put(INSTRUCTION, 0, b"there is no RAM", false);
+        canvas.put(INSTRUCTION, 0, b"no RAM here", false);
         return;
     }
     let bytes = [

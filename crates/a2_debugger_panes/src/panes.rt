@@ -78,7 +78,7 @@ fn is_panes(line: &[u8]) -> bool
 }
 
 // Whether a command shows, watches or asks about bytes of memory.
-fn is_of_memory(word: &[u8]) -> bool {
+fn is_memory_command(word: &[u8]) -> bool {
     word.eq_ignore_ascii_case(b"MEM")
         || word.eq_ignore_ascii_case(b"X")
         || word.eq_ignore_ascii_case(b"WHO")
@@ -87,9 +87,9 @@ fn is_of_memory(word: &[u8]) -> bool {
 
 // The address of memory in a line, if its command is about memory.
 fn aim_of(inspector: &Inspector<'_>, line: &[u8]) -> Option<u16> {
-    let (word, behind) = first_word(line)?;
-    let (place, _) = first_word(behind)?;
-    if !is_of_memory(word) {
+    let (word, following) = first_word(line)?;
+    let (place, _) = first_word(following)?;
+    if !is_memory_command(word) {
         return None;
     }
     Some(span_of(inspector.program(), place)?.first)
@@ -173,28 +173,28 @@ impl<'a, 'b> Panes<'a, 'b> {
                 self.frame = Some(frame);
                 put(bytes.as_slice(), writer)
             }
-            Err(_) => put(b"no memory for panes\n", writer),
+            Err(_) => put(b"not enough memory for panes\n", writer),
         }
     }
 
     /// Opens the panes if they are closed, and closes them if they are open.
-    pub fn turn<W: Output>(&mut self, writer: &mut W) -> Result<(), WriteFault>
+    pub fn toggle_panes<W: Output>(&mut self, writer: &mut W) -> Result<(), WriteFault>
         ensures kept { self.new.inspector ≡ self.old.inspector }
         ensures sent { (text : List ℕ) × SendsOrBreaks (W.taker writer.old) (W.taker writer.new) result text }
     {
         if self.is_up {
-            return self.leave(writer);
+            return self.close_panes(writer);
         }
         if let Some(wall) = self.wall {
             let layout = Layout::of(wall.rows, wall.all);
             wall.columns.set(usize::from(layout.left()));
             self.is_up = true;
         }
-        self.draw(b"panes, or Ctrl-L, takes these down", writer)
+        self.draw(b"panes or Ctrl-L hides the panes", writer)
     }
 
     /// Closes the panes if they are open.
-    pub fn leave<W: Output>(&mut self, writer: &mut W) -> Result<(), WriteFault>
+    pub fn close_panes<W: Output>(&mut self, writer: &mut W) -> Result<(), WriteFault>
         ensures kept { self.new.inspector ≡ self.old.inspector }
         ensures sent { (text : List ℕ) × SendsOrBreaks (W.taker writer.old) (W.taker writer.new) result text }
     {
@@ -223,13 +223,13 @@ impl<'a, 'b> Panes<'a, 'b> {
 }
 
 impl Partner for Panes<'_, '_> {
-    ghost use Rattle.a2_debugger_panes.specs.Panes.{IsPaned};
+    ghost use Rattle.a2_debugger_panes.specs.Panes.{IsShownInPanes};
 
-    ghost meets = { λ line old text new. IsPaned line old.inspector new.inspector };
+    ghost meets = { λ line old text new. IsShownInPanes line old.inspector new.inspector };
 
     fn answer<W: Output>(&mut self, line: &[u8], writer: &mut W) -> Result<(), WriteFault> {
         if is_panes(line) {
-            return self.turn(writer);
+            return self.toggle_panes(writer);
         }
         if self.is_up {
             return self.show(line, writer);

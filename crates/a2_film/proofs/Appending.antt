@@ -8,14 +8,14 @@ use Rattle.a2_page.proofs.Parts.{range-at}
 use Rattle.a2_bus.specs.Memory.{Memory, ram_byte, ram_end, peek}
 use Rattle.a2_film.specs.Changes.{Store, bytes_at, differing}
 use Rattle.a2_film.specs.Rows.{fields_of_parts, store_text, stores_text, no_address}
-use Rattle.a2_film.specs.Filmed.{from_address, next_behind, Appends}
+use Rattle.a2_film.specs.Filmed.{from_address, next_following, Appends}
 use Rattle.a2_film.proofs.Parts.{differing-alike, peek-some, peek-none}
 use Rattle.a2_film.proofs.Others.{bytes_at-joined, differing-cut, differing-none}
 
--- Fields behind one another
+-- Fields, one after another
 
-behind : (start before after xs ys : List ℕ) → after ≡ before ++ ys → before ≡ start ++ xs → after ≡ start ++ (xs ++ ys)
-behind start before after xs ys last first = last ∙ ap (λ (l : List ℕ). l ++ ys) first ∙ append_assoc start xs ys
+following : (start before after xs ys : List ℕ) → after ≡ before ++ ys → before ≡ start ++ xs → after ≡ start ++ (xs ++ ys)
+following start before after xs ys last first = last ∙ ap (λ (l : List ℕ). l ++ ys) first ∙ append_assoc start xs ys
 
 nine-parts : (pc cycles a x y s p switches keys : List ℕ)
     → ((((((((pc ++ cycles) ++ a) ++ x) ++ y) ++ s) ++ p) ++ switches) ++ keys)
@@ -23,33 +23,33 @@ nine-parts : (pc cycles a x y s p switches keys : List ℕ)
 unfolding fields_of_parts
 nine-parts pc cycles a x y s p switches keys = simp (append_assoc, append-nil)
 
--- nine texts that are appended one after another are the fields
-pub nine-behind : (r0 r1 r2 r3 r4 r5 r6 r7 r8 r9 pc cycles a x y s p switches keys : List ℕ)
+-- appending nine texts one after another gives the fields
+pub nine-following : (r0 r1 r2 r3 r4 r5 r6 r7 r8 r9 pc cycles a x y s p switches keys : List ℕ)
     → r1 ≡ r0 ++ pc → r2 ≡ r1 ++ cycles → r3 ≡ r2 ++ a → r4 ≡ r3 ++ x → r5 ≡ r4 ++ y → r6 ≡ r5 ++ s → r7 ≡ r6 ++ p
     → r8 ≡ r7 ++ switches → r9 ≡ r8 ++ keys → r9 ≡ r0 ++ fields_of_parts pc cycles a x y s p switches keys
-nine-behind r0 r1 r2 r3 r4 r5 r6 r7 r8 r9 pc cycles a x y s p switches keys e1 e2 e3 e4 e5 e6 e7 e8 e9 =
-    let f2 = behind r0 r1 r2 pc cycles e2 e1 in
-    let f3 = behind r0 r2 r3 (pc ++ cycles) a e3 f2 in
-    let f4 = behind r0 r3 r4 ((pc ++ cycles) ++ a) x e4 f3 in
-    let f5 = behind r0 r4 r5 (((pc ++ cycles) ++ a) ++ x) y e5 f4 in
-    let f6 = behind r0 r5 r6 ((((pc ++ cycles) ++ a) ++ x) ++ y) s e6 f5 in
-    let f7 = behind r0 r6 r7 (((((pc ++ cycles) ++ a) ++ x) ++ y) ++ s) p e7 f6 in
-    let f8 = behind r0 r7 r8 ((((((pc ++ cycles) ++ a) ++ x) ++ y) ++ s) ++ p) switches e8 f7 in
-    behind r0 r8 r9 (((((((pc ++ cycles) ++ a) ++ x) ++ y) ++ s) ++ p) ++ switches) keys e9 f8
+nine-following r0 r1 r2 r3 r4 r5 r6 r7 r8 r9 pc cycles a x y s p switches keys e1 e2 e3 e4 e5 e6 e7 e8 e9 =
+    let f2 = following r0 r1 r2 pc cycles e2 e1 in
+    let f3 = following r0 r2 r3 (pc ++ cycles) a e3 f2 in
+    let f4 = following r0 r3 r4 ((pc ++ cycles) ++ a) x e4 f3 in
+    let f5 = following r0 r4 r5 (((pc ++ cycles) ++ a) ++ x) y e5 f4 in
+    let f6 = following r0 r5 r6 ((((pc ++ cycles) ++ a) ++ x) ++ y) s e6 f5 in
+    let f7 = following r0 r6 r7 (((((pc ++ cycles) ++ a) ++ x) ++ y) ++ s) p e7 f6 in
+    let f8 = following r0 r7 r8 ((((((pc ++ cycles) ++ a) ++ x) ++ y) ++ s) ++ p) switches e8 f7 in
+    following r0 r8 r9 (((((((pc ++ cycles) ++ a) ++ x) ++ y) ++ s) ++ p) ++ switches) keys e9 f8
     ∙ ap (λ (l : List ℕ). r0 ++ l) (nine-parts pc cycles a x y s p switches keys)
 
--- Stores behind others
+-- Stores after other stores
 
 pub stores_text-joined : (next : ℕ) (xs ys : List Store) → stores_text next (xs ++ ys) ≡ stores_text next xs
-    ++ stores_text (next_behind next xs) ys
+    ++ stores_text (next_following next xs) ys
 stores_text-joined next [] ys = refl
 stores_text-joined next (store ∷ xs) ys =
     ap (λ (l : List ℕ). store_text next store ++ l) (stores_text-joined (store.0 + 1) xs ys)
-    ∙ sym (append_assoc (store_text next store) (stores_text (store.0 + 1) xs) (stores_text (next_behind (store.0 + 1) xs) ys))
+    ∙ sym (append_assoc (store_text next store) (stores_text (store.0 + 1) xs) (stores_text (next_following (store.0 + 1) xs) ys))
 
-next_behind-joined : (next : ℕ) (xs ys : List Store) → next_behind next (xs ++ ys) ≡ next_behind (next_behind next xs) ys
-next_behind-joined next [] ys = refl
-next_behind-joined next (store ∷ xs) ys = next_behind-joined (store.0 + 1) xs ys
+next_following-joined : (next : ℕ) (xs ys : List Store) → next_following next (xs ++ ys) ≡ next_following (next_following next xs) ys
+next_following-joined next [] ys = refl
+next_following-joined next (store ∷ xs) ys = next_following-joined (store.0 + 1) xs ys
 
 pub appends-none : (row : List ℕ) (next : ℕ) → Appends row next [] row next
 appends-none row next = (sym (append-nil row), refl)
@@ -58,14 +58,14 @@ pub appends-more : (row mid new : List ℕ) (next between last : ℕ) (xs ys : L
     → Appends mid between ys new last → Appends row next (xs ++ ys) new last
 appends-more row mid new next between last xs ys (first, at) (second, after) = (
   second ∙ ap₂ (λ (l : List ℕ) (n : ℕ). l ++ stores_text n ys) first at
-      ∙ append_assoc row (stores_text next xs) (stores_text (next_behind next xs) ys)
+      ∙ append_assoc row (stores_text next xs) (stores_text (next_following next xs) ys)
       ∙ ap (λ (l : List ℕ). row ++ l) (sym (stores_text-joined next xs ys)),
-  after ∙ ap (λ (n : ℕ). next_behind n ys) at ∙ sym (next_behind-joined next xs ys),
+  after ∙ ap (λ (n : ℕ). next_following n ys) at ∙ sym (next_following-joined next xs ys),
 )
 
 -- Listed addresses
 
--- the next of the listed bytes stands behind the row
+-- the next listed byte is appended to the row
 pub listed-store : (row mid new all : List ℕ) (memory : Memory) (i between byte last : ℕ) → i < length all
     → Some byte ≡ peek memory (get_or all i 0)
     → Appends row no_address (bytes_at (ram_byte memory) (take i all)) mid between
@@ -83,7 +83,7 @@ listed-store row mid new all memory i between byte last low told before more =
     subst (λ (l : List Store). Appends row no_address l new last) (sym all')
     (appends-more row mid new no_address between last (bytes_at (ram_byte memory) (take i all)) ((at, byte) ∷ []) before more)
 
--- an address that is no RAM's is left out
+-- an address outside RAM is left out
 pub listed-skip : (row mid all : List ℕ) (memory : Memory) (i between : ℕ) → i < length all → None ≡ peek memory (get_or all i 0)
     → Appends row no_address (bytes_at (ram_byte memory) (take i all)) mid between
     → Appends row no_address (bytes_at (ram_byte memory) (take (i + 1) all)) mid between
@@ -105,18 +105,18 @@ pub listed-all : (row new all : List ℕ) (memory : Memory) (i last : ℕ) → l
 listed-all row new all memory i last past are =
     are.0 ∙ ap (λ (l : List ℕ). row ++ stores_text no_address (bytes_at (ram_byte memory) l)) (take_all i all past)
 
--- Bytes that are others
+-- Bytes that differ
 
--- those of so many addresses more, whose old bytes are told by another function
+-- the stores of n more addresses, whose old bytes another function gives
 pub others-joined : (old was new : ℕ → ℕ) (row mid out : List ℕ) (next between last a m n total : ℕ) → total ≡ m + n
     → ((k : ℕ) → a + m ≤ k → k < a + m + n → was k ≡ old k) → Appends row next (differing old new a m) mid between
     → Appends mid between (differing was new (a + m) n) out last → Appends row next (differing old new a total) out last
 others-joined old was new row mid out next between last a m n total is same before more =
-    let behind : differing was new (a + m) n ≡ differing old new (a + m) n =
+    let following : differing was new (a + m) n ≡ differing old new (a + m) n =
     differing-alike was old new new (a + m) n same (λ k high low. refl) in
     let whole : differing old new a total ≡ differing old new a m ++ differing was new (a + m) n =
     ap (differing old new a) is ∙ differing-cut old new a m n ∙ ap (λ (l : List Store). differing old new a m ++ l)
-    (sym behind) in
+    (sym following) in
     subst (λ (l : List Store). Appends row next l out last) (sym whole)
     (appends-more row mid out next between last (differing old new a m) (differing was new (a + m) n) before more)
 
@@ -124,7 +124,7 @@ differing-one : (old new : ℕ → ℕ) (a : ℕ) → differing old new a 1 ≡ 
 unfolding differing
 differing-one old new a = refl
 
--- one address more is looked at
+-- one more address is compared
 pub other-looked : (old new : ℕ → ℕ) (row mid out : List ℕ) (next between last first a was byte : ℕ) → first ≤ a → was ≡ old a
     → byte ≡ new a
     → Appends row next (differing old new first (a - first)) mid between
@@ -139,7 +139,7 @@ other-looked old new row mid out next between last first a was byte order was_is
     (λ k high low. refl) before
     (subst (λ (l : List Store). Appends mid between l out last) (sym one) more)
 
--- where the bytes are the same, none stands behind the row
+-- if the bytes are the same, nothing is appended to the row
 pub others-none : (memory : Memory) (row old now : List ℕ) (next first end : ℕ) → old ≡ now
     → ((a : ℕ) → first ≤ a → a < end → from_address first now a ≡ ram_byte memory a)
     → Appends row next (differing (from_address first old) (ram_byte memory) first (end - first)) row next
@@ -149,7 +149,7 @@ others-none memory row old now next first end same held =
     (λ k high low. ap (λ (l : List ℕ). from_address first l k) same ∙ held k high (omega (arith, high, low))) in
     subst (λ (l : List Store). Appends row next l row next) (sym none) (appends-none row next)
 
--- none is looked at yet, or is left
+-- no address is compared yet, or none is left
 pub appends-empty : (old new : ℕ → ℕ) (row : List ℕ) (next a n : ℕ) → n ≡ 0 → Appends row next (differing old new a n) row next
 unfolding differing
 appends-empty old new row next a n is = subst (λ (k : ℕ). Appends row next (differing old new a k) row next) (sym is)
@@ -159,7 +159,7 @@ pub none-left : (old new : ℕ → ℕ) (next a n : ℕ) → n ≡ 0 → stores_
 unfolding differing
 none-left old new next a n is = ap (λ (k : ℕ). stores_text next (differing old new a k)) is
 
--- those of a piece are a row of their own, and what stands behind them is left
+-- the stores of a piece are a row of their own, and those after them are left
 pub piece-parted : (old : List ℕ) (new : ℕ → ℕ) (row out : List ℕ) (next last start past end size : ℕ) → row ≡ [] → start ≤ past
     → past ≤ size
     → past ≡ end → length old ≡ size
@@ -182,7 +182,7 @@ piece-parted old new row out next last start past end size empty order within he
     ∙ ap (stores_text next) (differing-cut (slice_index old) new start (past - start) (size - past))
     ∙ stores_text-joined next (differing (slice_index old) new start (past - start))
     (differing (slice_index old) new (start + (past - start)) (size - past))
-    ∙ ap₂ (λ (l : List Store) (k : ℕ). stores_text next l ++ stores_text (next_behind next l)
+    ∙ ap₂ (λ (l : List Store) (k : ℕ). stores_text next l ++ stores_text (next_following next l)
     (differing (slice_index old) new k (size - past))) (sym same) at
     ∙ ap₂ (λ (l : List ℕ) (n : ℕ). l ++ stores_text n (differing (slice_index old) new past (size - past))) (sym text) (sym are.1)
     ∙ ap (λ (k : ℕ). out ++ stores_text last (differing (slice_index old) new k (size - k))) here

@@ -1,4 +1,4 @@
--- The lines of a script: where a number ends, and which lines tell chapters.
+-- The lines of a script: where a number ends, and which lines begin chapters.
 use Rattle.std.specs.Prelude.{filter, codes}
 use Rattle.std.specs.Str.{IsUtf8}
 use Rattle.std.specs.Str.Parse.{AllDigits, digits_value}
@@ -32,7 +32,7 @@ space-is c h = grind (arith, nat_tests, h)
 space-not : (c : ℕ) → is_space c ≡ false → c ≢ 0x20
 space-not c h = grind (arith, nat_tests, h)
 
--- no blank stands before the first
+-- there is no blank before the first one
 before_first-spaceless : (text : List ℕ) → All (λ c. c ≢ 0x20) (take (position_or_len is_space text) text)
 before_first-spaceless [] = All-nil (λ c. c ≢ 0x20)
 before_first-spaceless (c ∷ text) = go (is_space c) refl (before_first-spaceless text)
@@ -44,14 +44,14 @@ before_first-spaceless (c ∷ text) = go (is_space c) refl (before_first-spacele
         let more : suc (position_or_len is_space text) ≡ 1 + position_or_len is_space text = omega arith in
         subst (λ (n : ℕ). All (λ c. c ≢ 0x20) (take n (c ∷ text))) more (All-cons (λ c. c ≢ 0x20) c _ (space-not c h) rest)
 
-pub cut_some : (text front behind : List ℕ) (end : ℕ) → end ≡ position_or_len is_space text → end < length text
+pub cut_some : (text front following : List ℕ) (end : ℕ) → end ≡ position_or_len is_space text → end < length text
     → front ≡ take end text
-    → behind ≡ drop (end + 1) text → IsCut text front behind
-cut_some text front behind end is within front_is behind_is =
+    → following ≡ drop (end + 1) text → IsCut text front following
+cut_some text front following end is within front_is behind_is =
     let low : position_or_len is_space text < length text = omega (arith, is, within) in
     let at : get_or text (position_or_len is_space text) 0 ≡ 0x20 = space-is _ (passes_at_first is_space text 0 low) in
     let fronts : front ≡ take (position_or_len is_space text) text = front_is ∙ ap (λ (n : ℕ). take n text) is in
-    let behinds : behind ≡ drop (position_or_len is_space text + 1) text = behind_is ∙ ap (λ (n : ℕ). drop (n + 1) text) is in (
+    let behinds : following ≡ drop (position_or_len is_space text + 1) text = behind_is ∙ ap (λ (n : ℕ). drop (n + 1) text) is in (
       split_at_first is_space text 0 low
           ∙ ap (λ (c : ℕ). take (position_or_len is_space text) text ++ (c ∷ drop (position_or_len is_space text + 1) text)) at
           ∙ ap (λ (l : List ℕ). l ++ (0x20 ∷ drop (position_or_len is_space text + 1) text)) (sym fronts)
@@ -59,39 +59,39 @@ cut_some text front behind end is within front_is behind_is =
       subst (λ (l : List ℕ). All (λ c. c ≢ 0x20) l) (sym fronts) (before_first-spaceless text),
     )
 
--- where the first blank of a cut stands
-first_at : (front behind : List ℕ) → All (λ c. c ≢ 0x20) front → position_or_len is_space (front ++ 0x20 ∷ behind) ≡ length front
-first_at [] behind h = refl
-first_at (c ∷ front) behind h =
+-- the position of the first blank of a cut
+first_at : (front following : List ℕ) → All (λ c. c ≢ 0x20) front → position_or_len is_space (front ++ 0x20 ∷ following) ≡ length front
+first_at [] following h = refl
+first_at (c ∷ front) following h =
     let other : c ≢ 0x20 = All-head (λ c. c ≢ 0x20) c front h in
     let no : not (is_space c) ≡ true = grind (arith, nat_tests, other) in
     let more : 1 + length front ≡ suc (length front) = omega arith in
-    cond-true (not (is_space c)) (1 + position_or_len is_space (front ++ 0x20 ∷ behind)) 0 no
-    ∙ ap (λ (n : ℕ). 1 + n) (first_at front behind (All-tail (λ c. c ≢ 0x20) c front h)) ∙ more
+    cond-true (not (is_space c)) (1 + position_or_len is_space (front ++ 0x20 ∷ following)) 0 no
+    ∙ ap (λ (n : ℕ). 1 + n) (first_at front following (All-tail (λ c. c ≢ 0x20) c front h)) ∙ more
 
-pub cut_none : (text : List ℕ) (end : ℕ) → end ≡ position_or_len is_space text → end ≡ length text → (front behind : List ℕ)
-    → IsCut text front behind → ⊥
-cut_none text end is all front behind (cut, none) =
-    let here : position_or_len is_space text ≡ length front = ap (position_or_len is_space) cut ∙ first_at front behind none in
-    let long : length text ≡ length front + suc (length behind) = ap length cut ∙ length-append front (0x20 ∷ behind) in
+pub cut_none : (text : List ℕ) (end : ℕ) → end ≡ position_or_len is_space text → end ≡ length text → (front following : List ℕ)
+    → IsCut text front following → ⊥
+cut_none text end is all front following (cut, none) =
+    let here : position_or_len is_space text ≡ length front = ap (position_or_len is_space) cut ∙ first_at front following none in
+    let long : length text ≡ length front + suc (length following) = ap length cut ∙ length-append front (0x20 ∷ following) in
     omega (arith, is, all, here, long)
 
--- a text is cut at one place
-pub cut_one : (text front behind other rest : List ℕ) → IsCut text front behind → IsCut text other rest → (front ≡ other)
-    × (behind ≡ rest)
-cut_one text front behind other rest (cut, none) (cut', none') =
-    let at : length front ≡ length other = sym (first_at front behind none) ∙ ap (position_or_len is_space) (sym cut ∙ cut')
+-- a text has only one cut
+pub cut_one : (text front following other rest : List ℕ) → IsCut text front following → IsCut text other rest → (front ≡ other)
+    × (following ≡ rest)
+cut_one text front following other rest (cut, none) (cut', none') =
+    let at : length front ≡ length other = sym (first_at front following none) ∙ ap (position_or_len is_space) (sym cut ∙ cut')
     ∙ first_at other rest none' in
     let at' : length other + 1 ≡ length other + 1 = refl in (
-      sym (take_at front (0x20 ∷ behind) (length other) at) ∙ ap (take (length other)) (sym cut ∙ cut')
+      sym (take_at front (0x20 ∷ following) (length other) at) ∙ ap (take (length other)) (sym cut ∙ cut')
           ∙ take_at other (0x20 ∷ rest) (length other) refl,
-      sym (behind_at front behind (length other + 1) (ap (λ (n : ℕ). n + 1) at)) ∙ ap (drop (length other + 1)) (sym cut ∙ cut')
+      sym (behind_at front following (length other + 1) (ap (λ (n : ℕ). n + 1) at)) ∙ ap (drop (length other + 1)) (sym cut ∙ cut')
           ∙ behind_at other rest (length other + 1) refl,
     )
   where
-    behind_at : (front behind : List ℕ) (n : ℕ) → length front + 1 ≡ n → drop n (front ++ 0x20 ∷ behind) ≡ behind
-    behind_at front behind n is =
-        ap (drop n) (sym (append_assoc front (0x20 ∷ []) behind)) ∙ drop_at (front ++ 0x20 ∷ []) behind n
+    behind_at : (front following : List ℕ) (n : ℕ) → length front + 1 ≡ n → drop n (front ++ 0x20 ∷ following) ≡ following
+    behind_at front following n is =
+        ap (drop n) (sym (append_assoc front (0x20 ∷ []) following)) ∙ drop_at (front ++ 0x20 ∷ []) following n
         (length_push front 0x20 ∙ is)
 
 -- Numbers
@@ -113,14 +113,14 @@ pub numbered_cut : (line : List ℕ) (n : ℕ) (text : List ℕ) → IsNumbered 
     × IsCut line word text
 numbered_cut line n text (word, limit, is, e) = (word, limit, (e, no_space word limit.0.1))
 
--- what stands before the first blank is no number
-pub numbered_none : (line front behind : List ℕ) → IsCut line front behind → (IsStepLimit front → ⊥) → (n : ℕ) (text : List ℕ)
+-- if the text before the first blank is not a number, the line has none
+pub numbered_none : (line front following : List ℕ) → IsCut line front following → (IsStepLimit front → ⊥) → (n : ℕ) (text : List ℕ)
     → IsNumbered line n text → ⊥
-numbered_none line front behind cut never n text is =
+numbered_none line front following cut never n text is =
     let (word, limit, other) = numbered_cut line n text is in
-    never (subst (λ (w : List ℕ). IsStepLimit w) ((cut_one line word text front behind other cut).0) limit)
+    never (subst (λ (w : List ℕ). IsStepLimit w) ((cut_one line word text front following other cut).0) limit)
 
-pub numbered_uncut : (line : List ℕ) → ((front behind : List ℕ) → IsCut line front behind → ⊥) → (n : ℕ) (text : List ℕ)
+pub numbered_uncut : (line : List ℕ) → ((front following : List ℕ) → IsCut line front following → ⊥) → (n : ℕ) (text : List ℕ)
     → IsNumbered line n text → ⊥
 numbered_uncut line never n text is =
     let (word, limit, other) = numbered_cut line n text is in
@@ -128,7 +128,7 @@ numbered_uncut line never n text is =
 
 -- Lines
 
--- no number begins with a letter
+-- a number does not begin with a letter
 lettered : (c : ℕ) (rest : List ℕ) → 58 ≤ c → (n : ℕ) (text : List ℕ) → IsNumbered (c ∷ rest) n text → ⊥
 lettered c rest high n text ([], limit, is, e) = absurd (omega (arith, limit.0.0))
 lettered c rest high n text (d ∷ word, limit, is, e) =

@@ -26,7 +26,7 @@ use Rattle.a2_film.specs.Filmed.{row_between, FilmsStep, Films, FilmsRest}
 none-some : {X : Type 0} (x : X) → None ≡ Some x → ⊥
 none-some x e = true≢false (sym (ap is_some e))
 
--- below the greatest number of steps a machine's cause is why it is stuck
+-- below the greatest number of steps, the cause of a machine says why it is stuck
 cause-stuck : (d : Device) → d.state.steps < most_steps → cause_of d.state ≡ stuck (code_of d.state) (world_of_state d.state)
 cause-stuck d low = go (stuck (code_of d.state) (world_of_state d.state)) refl
   where
@@ -35,7 +35,7 @@ cause-stuck d low = go (stuck (code_of d.state) (world_of_state d.state)) refl
     go None e = sym (cause_none d e low) ∙ sym e
     go (Some cause) e = sym (cause_told d cause e) ∙ sym e
 
--- so many steps are made, and their rows went out, but for those that are kept
+-- n steps are executed, and their rows were written, except those that are kept
 pub record IsFilmed (code : Code) (start : World) (a b : Taker) (d : Device) (n : ℕ) (kept : List ℕ) : Type 0 where
   pub low : d.state.steps < n + 4_294_967_296
   pub world : world_of_state d.state ≡ world_at code start n
@@ -68,7 +68,7 @@ below_next n P here before k lt = go (split k lt)
     go (inl e) = subst P (sym e) here
     go (inr l) = before k l
 
--- a machine that steps is not stuck
+-- a machine that can execute a step is not stuck
 steps-on : (code : Code) (start : World) (a b : Taker) (d : Device) (n : ℕ) (kept : List ℕ) → IsFilmed code start a b d n kept
     → n + 4_294_967_296 ≤ most_steps → None ≡ cause_of d.state
     → stuck code (world_at code start n) ≡ None
@@ -77,7 +77,7 @@ steps-on code start a b d n kept h low none =
     (ap (stuck code) h.world))
     ∙ sym (cause-stuck d (omega (arith, h.low, low))) ∙ sym none
 
--- the row of the next step, behind those before it
+-- the row of the next step, after the earlier rows
 next-rows : (code : Code) (start : World) (a b : Taker) (old new : Device) (n : ℕ) (kept : List ℕ)
     → IsFilmed code start a b old n kept → IsStep old new
     → rows code start n ++ row_between old new ≡ rows code start (n + 1)
@@ -88,7 +88,7 @@ next-rows code start a b old new n kept h step =
     step.world ∙ ap (λ (k : Code). next k (world_of_state old.state)) h.code_is ∙ ap (next code) h.world in
     ap₂ (λ (v w : World). rows code start n ++ row_text (change_of v w)) h.world after ∙ ap (rows code start) one
 
--- a step was made, and its row is kept
+-- a step was executed, and its row is kept
 pub filmed-next : (code : Code) (start : World) (a b : Taker) (old new : Device) (n : ℕ) (kept after : List ℕ)
     → IsFilmed code start a b old n kept → n + 4_294_967_296 ≤ most_steps → FilmsStep old new kept after None
     → IsFilmed code start a b new (n + 1) after
@@ -107,7 +107,7 @@ filmed-next code start a b old new n kept after h low (none, step, row) =
           ∙ ap (λ (l : List ℕ). l ++ row_between old new) h.all ∙ next-rows code start a b old new n kept h step;
     }
 
--- rows that were kept went out
+-- rows that were kept are written
 pub filmed-handed : (code : Code) (start : World) (a b c : Taker) (d : Device) (n : ℕ) (kept left : List ℕ)
     → IsFilmed code start a b d n kept → ((sent : List ℕ) × (kept ≡ sent ++ left) × Sends b c sent)
     → IsFilmed code start a c d n left
@@ -164,7 +164,7 @@ end-limit code start a b old new limit kept cause h run =
     why (inl is) = inl is
     why (inr is) = inr (is.0, refl, is.2)
 
--- the rows that are left go out with the cause line, or break off
+-- the rest of the rows is written with the cause line, or a write fails
 pub films-end : (code : Code) (start : World) (a b c : Taker) (d : Device) (n limit : ℕ) (kept : List ℕ) (cause : Cause)
     (r : Result Cause WriteFault) → IsFilmed code start a b d n kept
     → IsEnd code start limit (record { world = world_of_state d.state; steps = n; cause = cause })
@@ -205,7 +205,7 @@ lines-more code start n (suc more) =
     let line = row_text (change_of (world_at code start (n + more)) (world_at code start (suc (n + more)))) in
     (rest ++ line, ap (rows code start) e ∙ ap (λ (l : List ℕ). l ++ line) is ∙ append_assoc (rows code start n) rest line)
 
--- a run that has made so many steps makes so many at least
+-- a run that has executed n steps executes at least n
 pub end-late : (code : Code) (start : World) (limit n : ℕ) (end : End) → IsEnd code start limit end
     → ((k : ℕ) → k < n → stuck code (world_at code start k) ≡ None) → n ≤ limit → n ≤ end.steps
 end-late code start limit n end is going within = go (split end.steps n)
@@ -222,7 +222,7 @@ end-late code start limit n end is going within = go (split end.steps n)
     go (inl le) = le
     go (inr lt) = short lt is.cause
 
--- a row broke off
+-- the write of a row failed
 lines-broken : (code : Code) (start : World) (a c : Taker) (n limit : ℕ)
     → ((k : ℕ) → k < n → stuck code (world_at code start k) ≡ None) → n ≤ limit
     → Breaks a c (rows code start n) → (cause : Cause) × (output : List ℕ) × AreRunLines code start limit cause output
@@ -249,7 +249,7 @@ films-broken code start a b c d n limit kept (Ok _) failed h within broke = cc
 films-broken code start a b c d n limit kept (Err _) failed h within broke =
     lines-broken code start a c n limit h.going within (subst (Breaks a c) h.all (Breaks-then a b c _ _ h.sent broke))
 
--- a cause forbids the next step, and its line goes out or breaks off
+-- a cause forbids the next step, and its line is written or the write fails
 pub films-stuck : (code : Code) (start : World) (a b c : Taker) (old new : Device) (n limit : ℕ) (kept after : List ℕ) (cause : Cause)
     (r : Result Cause WriteFault)
     → IsFilmed code start a b old n kept → n < limit → n + 4_294_967_296 ≤ most_steps
@@ -260,7 +260,7 @@ films-stuck code start a b c old new n limit kept after cause r h within low (wh
     (end-stuck code start a b old n limit kept cause h (omega (arith, within)) low why)
     (subst (λ (l : List ℕ). SendsOrBreaks b c r (l ++ cause_line cause)) none sent) told
 
--- The end of the page behind the run
+-- The end of the page, after the run
 
 pub rest-cut : (code : Code) (start : World) (limit : ℕ) (a b : Taker) (r : Result Cause WriteFault) → IsErr r
     → ((cause : Cause) × (output : List ℕ) × AreRunLines code start limit cause output × Breaks a b output)

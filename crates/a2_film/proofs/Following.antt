@@ -21,7 +21,7 @@ use Rattle.a2_services.proofs.Counting.{cleared_devices, base_devices, returned_
 use Rattle.a2_services.proofs.Effects.{effect_devices}
 use Rattle.a2_film.specs.Changes.{keys_taken}
 
--- devices follow from others where some of the waiting keys were taken, and the switches set
+-- devices follow from others if some waiting keys were taken and the switches set
 pub record Follows (old new : Devices) : Type 0 where
   pub front : List ℕ
   pub keys : old.keys ≡ front ++ new.keys
@@ -182,7 +182,7 @@ effect-follows Getln w =
     subst (Follows w.memory.devices)
     (sym (ap (λ (x : Memory). x.devices) (returned_devices (with_x line.len (output line.memory w))) ∙ base_devices line.memory))
     follows.is
--- one whose row says that it needs no key leaves the devices as they are
+-- a service whose row says that it needs no key does not change the devices
 effect-follows service w = follows-same _ _ (effect_devices service w refl)
 
 pub served-follows : (service : Service) (w : World) → Follows w.memory.devices (served service w).memory.devices

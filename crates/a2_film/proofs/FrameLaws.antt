@@ -23,7 +23,7 @@ use Rattle.a2_services.specs.World.{World}
 use Rattle.a2_machine.specs.declared.causes.Cause.{Cause}
 use Rattle.a2_machine.specs.declared.causes.Cause.TheVariants.{Returned, CodeWrite, OffStatement}
 use Rattle.a2_machine.specs.ByteRun.{Guard, bytes, decoded_or_cause}
-use Rattle.a2_machine.specs.Meaning.{Code, Decoded, cause_of_refusal, instruction_cause, service_cause, return_address, stuck_at}
+use Rattle.a2_machine.specs.Meaning.{Code, Decoded, cause_of_cpu_error, instruction_cause, service_cause, return_address, stuck_at}
 use Rattle.a2_machine.specs.Meaning.{next_at, found_at_pc, stuck, next, world_at}
 use Rattle.a2_film.specs.Changes.{Store, changed, switch_digit, switches_of, bytes_at, differing, stored, change_of, Frame}
 use Rattle.a2_film.specs.Changes.{keys_taken, with_stores, applied, frame_at}
@@ -31,7 +31,7 @@ use Rattle.a2_film.specs.Laws.{Shows}
 use Rattle.a2_film.proofs.Following.{Follows, performed-follows, served-follows}
 use Rattle.a2_film.proofs.Stepping.{stored-by_instruction, stored-by_service}
 
--- What is told where it changed
+-- What is written if it changed
 
 unwrap-changed : (old new is : ℕ) → is ≡ old → unwrap_or (changed old new) is ≡ new
 unwrap-changed old new is e = go (old == new) refl
@@ -40,7 +40,7 @@ unwrap-changed old new is e = go (old == new) refl
     go true h = e ∙ eqb-true old new h
     go false h = refl
 
--- a test that holds at both truth values holds at each
+-- a test that holds for both truth values holds for each
 abbrev both : (Bool → Bool) → Bool
 both p = p true && p false
 
@@ -96,7 +96,7 @@ same_is f g h =
     let c = beq_same f.c g.c h6.1 in
     λ t. record { n = n t; v = v t; d = d t; i = i t; z = z t; c = c t }
 
--- the flags that a byte of them gives back
+-- a byte of flags gives the same flags back
 abbrev gives_back : Bool → Bool → Bool → Bool → Bool → Bool → Bool
 gives_back n v d i z c = same (flags_of_byte (byte_of_flags (flags n v d i z c))) (flags n v d i z c)
 
@@ -119,7 +119,7 @@ flags-round f =
 split-at : (a b : ℕ) → (a ≡ b) ⊎ (a ≢ b)
 split-at a b = grind (arith, nat_tests)
 
--- a byte at an address, behind a store there or elsewhere
+-- a byte at an address, after a store there or elsewhere
 store-here : (bytes : ℕ → ℕ) (a b byte : ℕ) → a ≡ b → (if a == b then byte else bytes a) ≡ byte
 store-here bytes a b byte is = let e : (a == b) ≡ true = grind (arith, nat_tests, is) in ap (λ v. if v then byte else bytes a) e
 
@@ -127,7 +127,7 @@ store-elsewhere : (bytes : ℕ → ℕ) (a b byte : ℕ) → a ≢ b → (if a =
 store-elsewhere bytes a b byte other = let e : (a == b) ≡ false = grind (arith, nat_tests, other) in
     ap (λ v. if v then byte else bytes a) e
 
--- behind the stores at some addresses all bytes are the new ones, where those at other addresses were
+-- after stores at some addresses all bytes are the new ones, if those at the other addresses already were
 settled-listed : (new : ℕ → ℕ) (addresses : List ℕ) (bytes : ℕ → ℕ) (a : ℕ) → a < ram_end
     → (IsNotIn a addresses → bytes a ≡ new a)
     → with_stores (bytes_at new addresses) bytes a ≡ new a
@@ -145,11 +145,11 @@ settled-listed new (b ∷ others) bytes a low h = go (nat_lt b ram_end) refl (λ
         → with_stores (bytes_at new others) now a ≡ new a)
         → with_stores (if v then (b, new b) ∷ bytes_at new others else bytes_at new others) bytes a ≡ new a
     go true in_ram rest = rest (λ k. if k == b then new b else bytes k) (there (split-at a b))
-    go false behind rest =
-        let other : a ≢ b = λ is. let bad : ⊥ = grind (arith, nat_tests, behind, low, is) in bad in
+    go false following rest =
+        let other : a ≢ b = λ is. let bad : ⊥ = grind (arith, nat_tests, following, low, is) in bad in
         rest bytes (λ free. h (other, free))
 
--- behind the bytes that differ all are the new ones
+-- after the stores of the bytes that differ, all bytes are the new ones
 settled-differing : (old new : ℕ → ℕ) (n from : ℕ) (bytes : ℕ → ℕ) (a : ℕ) → a < from + n → (from ≤ a → bytes a ≡ old a)
     → (a < from → bytes a ≡ new a)
     → with_stores (differing old new from n) bytes a ≡ new a
@@ -193,7 +193,7 @@ record ServiceStep (code : Code) (world : World) : Type 0 where
   there : service_at world.registers.pc ≡ Some service
   is : next code world ≡ served service world
 
--- an instruction was done
+-- an instruction was executed
 record InstructionStep (code : Code) (world : World) : Type 0 where
   decoded : Decoded
   no_service : service_at world.registers.pc ≡ None
@@ -210,13 +210,13 @@ step-is code world free = at_return (world.registers.pc == return_address) free
   where
     refusal : (decoded : Decoded) (why : Option Refusal) → refusal_of decoded.row.mnemonic world.registers.flags ≡ why
         → (elim why as (λ _. Option Cause) [
-          | Some why ↦ Some (cause_of_refusal why)
+          | Some why ↦ Some (cause_of_cpu_error why)
           | None ↦ if Rattle.std.specs.List.list_any (is_among code.protected)
               (stores_of memory_access decoded.row decoded.value world) then Some CodeWrite else None
         ]) ≡ None
         → refusal_of decoded.row.mnemonic world.registers.flags ≡ None
     refusal decoded None is free = is
-    refusal decoded (Some why) is free = absurd (none-some (cause_of_refusal why) free)
+    refusal decoded (Some why) is free = absurd (none-some (cause_of_cpu_error why) free)
 
     at_service : (service : Option Service) (at : Result Decoded Cause) → service_at world.registers.pc ≡ service
         → code.instruction_at world.memory world.registers.pc ≡ at
@@ -268,7 +268,7 @@ step-is code world free = at_return (world.registers.pc == return_address) free
     at_return false free = at_service (service_at world.registers.pc) (code.instruction_at world.memory world.registers.pc) refl
         refl free
 
--- an instruction that a run of bytes finds stands in memory
+-- an instruction that a run of bytes finds is in memory
 decoded-is : (f : Fetched) (decoded : Decoded) → decoded_or_cause f ≡ Ok decoded → f ≡ instruction decoded.row decoded.value
 decoded-is no_byte decoded e = cc
 decoded-is undocumented decoded e = cc

@@ -1,4 +1,4 @@
--- The bytes that are others behind a step, listed by their addresses.
+-- The bytes that differ after a step, listed by their addresses.
 use Rattle.std.specs.Prelude.{◌≡◌, ℕ, zero, suc, ◌+◌, ◌-◌, ◌*◌, ◌<◌, ◌≤◌, nat_lt, ◌==◌, Bool, true, false, List, [], ◌∷◌, ◌++◌}
 use Rattle.std.specs.Prelude.{length, if◌then◌else◌, slice_range, refl}
 use Rattle.std.proofs.Common.{ap, ◌∙◌, arith}
@@ -12,7 +12,7 @@ use Rattle.a2_bus.proofs.Viewing.{byte_seen}
 use Rattle.a2_film.specs.Changes.{Store, bytes_at, differing}
 use Rattle.a2_film.specs.Filmed.{from_address}
 
--- the bytes at addresses and at others behind them
+-- the bytes at two lists of addresses, one after the other
 pub bytes_at-joined : (m : ℕ → ℕ) (front back : List ℕ) → bytes_at m (front ++ back) ≡ bytes_at m front ++ bytes_at m back
 bytes_at-joined m [] back = refl
 bytes_at-joined m (a ∷ front) back = go (nat_lt a ram_end) (bytes_at-joined m front back)
@@ -23,7 +23,7 @@ bytes_at-joined m (a ∷ front) back = go (nat_lt a ram_end) (bytes_at-joined m 
     go true rest = ap (λ (l : List Store). (a, m a) ∷ l) rest
     go false rest = rest
 
--- of more addresses
+-- the bytes that differ at m + n addresses
 pub differing-cut : (old new : ℕ → ℕ) (a m n : ℕ) → differing old new a (m + n) ≡ differing old new a m
     ++ differing old new (a + m) n
 unfolding differing
@@ -44,7 +44,7 @@ differing-cut old new a (suc m) n =
     go true rest = rest
     go false rest = ap (λ (l : List Store). (a, new a) ∷ l) rest
 
--- none differ
+-- if no byte differs, there are none
 pub differing-none : (old new : ℕ → ℕ) (a n : ℕ) → ((k : ℕ) → a ≤ k → k < a + n → old k ≡ new k) → differing old new a n ≡ []
 unfolding differing
 differing-none old new a zero same = refl
@@ -54,7 +54,7 @@ differing-none old new a (suc n) same =
     ap (λ (v : Bool). if v then differing old new (a + 1) n else (a, new a) ∷ differing old new (a + 1) n) eq
     ∙ differing-none old new (a + 1) n (λ k high low. same k (omega (arith, high)) (omega (arith, low)))
 
--- the bytes differ only up to an end from $24 on, and on page 1
+-- the bytes differ only from $24 to an end, and on page 1
 pub differing-reached : (old new : ℕ → ℕ) (end : ℕ) → 0x24 ≤ end → end ≤ 0x400 → ((a : ℕ) → a < 0x24 → old a ≡ new a)
     → ((a : ℕ) → end ≤ a → a < 0x400 → old a ≡ new a) → ((a : ℕ) → 0x800 ≤ a → old a ≡ new a)
     → differing old new 0 ram_end ≡ differing old new 0x24 (end - 0x24) ++ differing old new 0x400 0x400
@@ -105,7 +105,7 @@ differing-reached old new end least most below between above =
 
 -- Pieces of page 1, of 64 bytes
 
--- a byte of a piece is the page's
+-- a byte of a piece is the byte of the page
 pub piece-of : (page : List ℕ) (piece a : ℕ) → piece < 16 → length page ≡ 1024 → 0x400 + piece * 64 ≤ a
     → a < 0x400 + piece * 64 + 64
     → from_address (0x400 + piece * 64) (slice_range page (piece * 64) (piece * 64 + 64)) a ≡ from_address 0x400 page a
@@ -113,7 +113,7 @@ piece-of page piece a low size high under =
     range-at page (piece * 64) (piece * 64 + 64) (a - (0x400 + piece * 64)) (a - 0x400) 0 (omega (arith, low, size))
     (omega (arith, high)) (omega (arith, high, under))
 
--- and the page's byte is RAM's
+-- and the byte of the page is the byte of RAM
 pub page-seen : (bus : BusState) (page : List ℕ) (a : ℕ) → length bus.bytes ≡ ram_end → page ≡ slice_range bus.bytes 0x400 0x800
     → 0x400 ≤ a → a < 0x800
     → from_address 0x400 page a ≡ ram_byte (memory_of bus) a

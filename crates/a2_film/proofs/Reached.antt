@@ -1,4 +1,4 @@
--- Where no service stores.
+-- Addresses at which no service stores.
 use Rattle.std.specs.Prelude.{◌≡◌, ℕ, ◌<◌, ◌≤◌, Bool, true, false, if◌then◌else◌, refl}
 use Rattle.std.proofs.Common.{arith, true≢false}
 use Rattle.std.proofs.lemmas.Bool.Decides.{nat_tests}
@@ -31,7 +31,7 @@ none-above reaches.BaseAndPage a high = grind (arith, nat_tests, high)
 none-above reaches.Color a high = grind (arith, nat_tests, high)
 none-above reaches.Graphics a high = grind (arith, nat_tests, high)
 
--- between the line and page 1
+-- no service stores between the line and page 1
 none-between : (r : Reach) (a : ℕ) → 0x300 ≤ a → a < 0x400 → is_reached r a ≡ false
 none-between reaches.Nowhere a high low = refl
 none-between reaches.Screen a high low = grind (arith, nat_tests, high, low)
@@ -43,17 +43,17 @@ none-between reaches.BaseAndPage a high low = grind (arith, nat_tests, high, low
 none-between reaches.Color a high low = grind (arith, nat_tests, high, low)
 none-between reaches.Graphics a high low = grind (arith, nat_tests, high, low)
 
--- and from the mask on, for one that does not reach the line
-none-behind : (r : Reach) (a : ℕ) → is_reached r 0x2FF ≡ false → 0x33 ≤ a → a < 0x400 → is_reached r a ≡ false
-none-behind reaches.Nowhere a off high low = refl
-none-behind reaches.Screen a off high low = grind (arith, nat_tests, high, low)
-none-behind reaches.ScreenAndLine a off high low = absurd (true≢false off)
-none-behind reaches.Mask a off high low = grind (arith, nat_tests, high, low)
-none-behind reaches.Base a off high low = grind (arith, nat_tests, high, low)
-none-behind reaches.Page a off high low = grind (arith, nat_tests, high, low)
-none-behind reaches.BaseAndPage a off high low = grind (arith, nat_tests, high, low)
-none-behind reaches.Color a off high low = grind (arith, nat_tests, high, low)
-none-behind reaches.Graphics a off high low = grind (arith, nat_tests, high, low)
+-- nor from the mask on, if it does not reach the line
+none-following : (r : Reach) (a : ℕ) → is_reached r 0x2FF ≡ false → 0x33 ≤ a → a < 0x400 → is_reached r a ≡ false
+none-following reaches.Nowhere a off high low = refl
+none-following reaches.Screen a off high low = grind (arith, nat_tests, high, low)
+none-following reaches.ScreenAndLine a off high low = absurd (true≢false off)
+none-following reaches.Mask a off high low = grind (arith, nat_tests, high, low)
+none-following reaches.Base a off high low = grind (arith, nat_tests, high, low)
+none-following reaches.Page a off high low = grind (arith, nat_tests, high, low)
+none-following reaches.BaseAndPage a off high low = grind (arith, nat_tests, high, low)
+none-following reaches.Color a off high low = grind (arith, nat_tests, high, low)
+none-following reaches.Graphics a off high low = grind (arith, nat_tests, high, low)
 
 pub reach-below : (service : Service) (a : ℕ) → a < 0x24 → reach service a ≡ false
 unfolding reach
@@ -69,7 +69,7 @@ reach-between service a high low = go (reach service 0x2FF) refl high
   where
     go : (v : Bool) → reach service 0x2FF ≡ v → (if v then 0x300 else 0x33) ≤ a → reach service a ≡ false
     go true is high = none-between (service_row service).reach a high low
-    go false is high = none-behind (service_row service).reach a is high low
+    go false is high = none-following (service_row service).reach a is high low
 
 -- where the bytes below page 1 end
 pub low_end-least : (service : Service) → 0x24 ≤ low_end service

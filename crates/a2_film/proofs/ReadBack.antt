@@ -52,7 +52,7 @@ word-back n rest low =
 record IsDecimal (n : ℕ) (rest : List ℕ) : Type 0 where
   count : digit_count (decimal n ++ rest) ≡ length (decimal n)
   number : decimal_number (decimal n ++ rest) ≡ n
-  behind : drop (digit_count (decimal n ++ rest)) (decimal n ++ rest) ≡ rest
+  following : drop (digit_count (decimal n ++ rest)) (decimal n ++ rest) ≡ rest
 
 decimal-back : (n : ℕ) (rest : List ℕ) → n < 10 ^ 64 → NoDigit 10 rest → IsDecimal n rest
 decimal-back n rest low stop =
@@ -63,12 +63,12 @@ decimal-back n rest low stop =
       count = count;
       number = ap (λ (k : ℕ). digits_value 10 (take k (decimal n ++ rest))) count
           ∙ ap (digits_value 10) (take_at (decimal n) rest (length (decimal n)) refl) ∙ is.1;
-      behind = ap (λ (k : ℕ). drop k (decimal n ++ rest)) count ∙ drop_at (decimal n) rest (length (decimal n)) refl;
+      following = ap (λ (k : ℕ). drop k (decimal n ++ rest)) count ∙ drop_at (decimal n) rest (length (decimal n)) refl;
     }
 
--- Which bytes stand first
+-- The first byte of a text
 
--- one of these stands first
+-- the first byte is one of these
 abbrev Among : List ℕ → List ℕ → Type 0
 Among letters text = is_among letters (first text) ≡ true
 
@@ -125,7 +125,7 @@ keys-back n rest low different stop = go (n == 0) refl
         rw different (ap (λ (k : ℕ). (k, rest)) (sym none))
     go false e =
         let is = decimal-back n rest low stop in
-        ap₂ (λ (k : ℕ) (text : List ℕ). (k, text)) is.number is.behind
+        ap₂ (λ (k : ℕ) (text : List ℕ). (k, text)) is.number is.following
 
 keys-among : (n : ℕ) (letters rest : List ℕ) → Among letters rest → Among (0x6B ∷ letters) (keys_text n ++ rest)
 keys-among n letters rest is = go (n == 0)
@@ -204,7 +204,7 @@ stores-long (store ∷ others) next = go (store.0 == next) (stores-long others (
     go true more = omega (arith, more)
     go false more = omega (arith, more)
 
--- No digit stands first
+-- The first byte is not a digit
 
 nodigit-in : (letters : List ℕ) (c : ℕ) → is_among letters c ≡ true → list_all (λ l. nat_le 10 (digit_value l)) letters ≡ true
     → 10 ≤ digit_value c
@@ -290,7 +290,7 @@ row-back change rest fits =
     rw (
       word-back change.pc (decimal change.cycles ++ t1) fits.pc,
       cycles.number,
-      cycles.behind,
+      cycles.following,
       byte-field 0x61 change.a t2 refl (other 0x61 (0x78 ∷ 0x79 ∷ 0x73 ∷ 0x70 ∷ 0x77 ∷ 0x6B ∷ 0x6D ∷ 0x0A ∷ []) t2 m2 refl)
           fits.a,
       byte-field 0x78 change.x t3 refl (other 0x78 (0x79 ∷ 0x73 ∷ 0x70 ∷ 0x77 ∷ 0x6B ∷ 0x6D ∷ 0x0A ∷ []) t3 m3 refl) fits.x,

@@ -27,7 +27,7 @@ use Rattle.a2_film.proofs.Parts.{differing-alike}
 use Rattle.a2_film.proofs.Reached.{reach-below, reach-above, reach-between, low_end-least, low_end-most}
 use Rattle.a2_film.proofs.Others.{differing-reached, page-seen}
 
--- where an instruction stores on a board is where it stores in the world
+-- an instruction stores at the same addresses on a board as in the world
 fetched-stores : (found : Fetched) (registers : Registers) (bus : BusState) (cycles : ℕ) → length bus.bytes ≡ ram_end
     → stores_at board_access found (state_of registers bus) ≡ stores_at memory_access found (world_of registers bus cycles)
 unfolding stores_at
@@ -77,7 +77,7 @@ stored-by_service before after some = go (service_at before.registers.pc) some
     go None is = absurd (true≢false (sym is))
     go (Some service) is = refl
 
--- what is built for a step is its row, behind the others
+-- what is built for a step is its row, after the other rows
 pub row_of : (rows start row all fields stores whole : List ℕ) → all ≡ row ++ codes "\n" → row ≡ start ++ stores
     → start ≡ rows ++ fields → fields ++ (stores ++ codes "\n") ≡ whole → all ≡ rows ++ whole
 row_of rows start row all fields stores whole ended stored begun is =
@@ -85,7 +85,7 @@ row_of rows start row all fields stores whole ended stored begun is =
     ∙ append_assoc (rows ++ fields) stores (codes "\n") ∙ append_assoc rows fields (stores ++ codes "\n")
     ∙ ap (λ (l : List ℕ). rows ++ l) is
 
--- the row of an instruction's step, by the addresses that the processor tells before it
+-- the row of an instruction's step, from the addresses that the processor gives before it
 pub instruction_row : (old new : Device) (seen : Seen) (addresses : List ℕ) → is_some (service_at old.state.regs.pc) ≡ false
     → length old.state.bus.bytes ≡ ram_end → seen ≡ seen_of (world_of_state old.state)
     → addresses ≡ step_stores board_access (before_step old.state.regs old.state.bus)
@@ -99,7 +99,7 @@ instruction_row old new seen addresses none size is told =
     (ap (bytes_at (ram_byte after.memory)) (told ∙ stores-there (registers_of old.state.regs) old.state.bus old.state.cycles size)
     ∙ sym (stored-by_instruction before after none))
 
--- the world behind a call
+-- the world after a call
 called : (code : Code) (world : World) (service : Service) → Some service ≡ service_at world.registers.pc
     → next code world ≡ served service world
 unfolding next next_at
@@ -112,7 +112,7 @@ called code world service there =
       ]
     ]) (sym there)
 
--- the row of a service's step, by the bytes of RAM before it that it may change
+-- the row of a service's step, from the earlier bytes of RAM that it may change
 pub service_row : (old new : Device) (seen : Seen) (service : Service) (ram page : List ℕ) (end : ℕ)
     → Some service ≡ service_at old.state.regs.pc
     → IsStep old new → length old.state.bus.bytes ≡ ram_end → seen ≡ seen_of (world_of_state old.state) → end ≡ low_end service

@@ -1,4 +1,4 @@
--- What an opcode tells of stores.
+-- What an opcode says about stores.
 use Rattle.std.proofs.Common.{◌≡◌, ℕ, ◌-◌, List, [], Option, Some, None, refl, sym, ap, ◌∙◌, length, ◌+◌}
 use Rattle.a2_opcode.specs.declared.Row.{Row}
 use Rattle.a2_opcode.specs.Table.{row_of, length_of}

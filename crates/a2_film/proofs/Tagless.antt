@@ -1,4 +1,4 @@
--- No piece of a film's data holds a <.
+-- No piece of a film's data contains a <.
 use Rattle.std.specs.Prelude.{◌≡◌, ◌≢◌, ℕ, zero, suc, ◌+◌, ◌/◌, ◌%◌, ◌==◌, ◌<◌, nat_lt, nat_le, not, ◌&&◌, Bool, true, false}
 use Rattle.std.specs.Prelude.{if◌then◌else◌, List, [], ◌∷◌, ◌++◌, codes, Option, Some, None, refl}
 use Rattle.std.specs.List.{concat, flat_map, list_all}
@@ -41,7 +41,7 @@ cons-tagless c xs h k = All-cons (λ c. c ≢ 0x3C) c xs h k
 nil-tagless : HasNoTag []
 nil-tagless = All-nil (λ c. c ≢ 0x3C)
 
--- by a test, which computes at a text that is written out
+-- shown by a test, which is computed if the text is written out
 other_test : (c : ℕ) → not (c == 0x3C) ≡ true → c ≢ 0x3C
 other_test c h = grind (arith, nat_tests, h)
 
@@ -51,7 +51,7 @@ by_test (c ∷ cs) h =
     let parts = and_parts (not (c == 0x3C)) (list_all (λ c. not (c == 0x3C)) cs) h in
     cons-tagless c cs (other_test c parts.0) (by_test cs parts.1)
 
--- all of these have none
+-- none of these texts contains a <
 abbrev AllTagless : List (List ℕ) → Type 0
 AllTagless [] = Unit {0}
 AllTagless (x ∷ xs) = HasNoTag x × AllTagless xs
@@ -186,7 +186,7 @@ cause-tagless : (cause : Cause) → HasNoTag (cause_line cause)
 cause-tagless Returned = by_test (cause_line Returned) refl
 cause-tagless cause = by_test (cause_line cause) refl
 
--- What stands before the rows
+-- The text before the rows
 
 plain-byte-tagless : (c : ℕ) → HasNoTag (plain_byte c)
 plain-byte-tagless c = go (nat_le 0x20 c && nat_le c 0x7E) (not (c == 0x3C)) (not (c == 0x5C)) refl

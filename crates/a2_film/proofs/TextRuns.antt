@@ -1,4 +1,4 @@
--- The film of the text's run: that of the machine's.
+-- The film of the text's run is that of the machine's run.
 use Rattle.std.specs.Prelude.{◌≡◌, ℕ, zero, suc, ◌+◌, ◌-◌, ◌<◌, ◌≤◌, Bool, List, ◌++◌, None, Option, Result, Ok, Err, refl}
 use Rattle.std.specs.List.{flat_map}
 use Rattle.std.proofs.Common.{sym, ap, ap₂, ◌∙◌, subst, arith}
@@ -33,13 +33,13 @@ use Rattle.a2_film.specs.Film.{film_head, IsFilmFrom, IsFilmOf}
 use Rattle.a2_film.specs.Laws.{Shows, FramesShowTheRun}
 use Rattle.a2_film.proofs.FrameLaws.{frames-show}
 use Rattle.a2_film.proofs.Filming.{end-late}
-use Rattle.a2_film.proofs.Windows.{shift, Going, going-first, going-behind, with_steps, end-joined, end-split}
+use Rattle.a2_film.proofs.Windows.{shift, Going, going-first, going-following, with_steps, end-joined, end-split}
 
--- each end of the one code's runs from a start is an end of the other's
+-- each end of a run of one code from a start is an end of a run of the other
 abbrev EndAlike : Code → Code → World → Type 0
 EndAlike code other start = (limit : ℕ) (end : End) → IsEnd code start limit end → IsEnd other start limit end
 
--- so both go through the same worlds: a run that is limited to so many steps ends at the last of them
+-- so both go through the same worlds: a run that is limited to n steps ends at the last of them
 same-world : (code other : Code) (start : World) (n : ℕ) → EndAlike code other start
     → ((k : ℕ) → k < n → stuck code (world_at code start k) ≡ None)
     → world_at code start n ≡ world_at other start n
@@ -82,10 +82,10 @@ same-run code other start limit cause output alike is = record {
       (same-rows code other start is.end.steps alike is.is_end.first);
 }
 
--- so they are from each world that is come to
-alike-behind : (code other : Code) (start : World) (m : ℕ) → EndAlike code other start → Going code start m
+-- so they agree from each world that is reached
+alike-following : (code other : Code) (start : World) (m : ℕ) → EndAlike code other start → Going code start m
     → EndAlike code other (world_at code start m)
-alike-behind code other start m alike going limit end is =
+alike-following code other start m alike going limit end is =
     subst (λ (w : World). IsEnd other w limit end) (sym (same-world code other start m alike going))
     (end-split other start m limit end (alike (m + limit) (with_steps m end) (end-joined code start m limit end going is)))
 
@@ -104,17 +104,17 @@ frames_show_the_run text keys limit free program end made is from n within =
     going-first (bytes guard) start (from + n) last.steps (omega (arith, within, steps)) ends.first in
     let first : Going (bytes guard) start from = going-first (bytes guard) start from (from + n) (omega arith) going in
     let here = world_at (bytes guard) start from in
-    let onward : Going (bytes guard) here n = going-behind (bytes guard) start from n going in
+    let onward : Going (bytes guard) here n = going-following (bytes guard) start from n going in
     let frames : frame_at (bytes guard) here n ≡ frame_at other (world_at other start from) n =
-    same-frames (bytes guard) other here n (alike-behind (bytes guard) other start from alike first) onward
+    same-frames (bytes guard) other here n (alike-following (bytes guard) other start from alike first) onward
     ∙ ap (λ (w : World). frame_at other w n) (same-world (bytes guard) other start from alike first) in
     subst (λ (w : World). Shows (frame_at other (world_at other start from) n) w)
     (shift (bytes guard) start from n ∙ same-world (bytes guard) other start (from + n) alike going)
     (subst (λ (f : Frame). Shows f (world_at (bytes guard) here n)) frames (frames-show guard here n onward))
 
--- The film of a text, as it goes out
+-- The film of a text, as it is written
 
--- some film of a text that is accepted, whose run ends as it does
+-- there is a film of each accepted text, with the end of its run
 any-run : (code : Code) (start : World) (limit : ℕ) → (cause : Cause) × (output : List ℕ) × AreRunLines code start limit cause
     output
 any-run code start limit =
@@ -129,7 +129,7 @@ any-run code start limit =
       },
     )
 
--- a machine is filmed from where it stands, once the guard is set
+-- a machine is filmed from its current state, after the guard is set
 module _ (text title : List ℕ) (chapters : List Chapter) (free : Bool) (program : Assembled) (old new : Device)
     (set : new ≡ record old { state = record old.state { guard = guard_of_run free program } }) (limit : ℕ)
     (texts : List (List ℕ)) (cut : texts ≡ lines text) where
@@ -140,7 +140,7 @@ module _ (text title : List ℕ) (chapters : List Chapter) (free : Bool) (progra
   IsFilm cause output =
       IsFilmFrom text title chapters free program from_code old.state.steps (world_of_state old.state) limit cause output
 
-  -- what stands before the rows, as it is written
+  -- the text before the rows, as it is written
   abbrev written_of : Device → List (List ℕ) → List ℕ
   written_of device shown =
       page.head ++ (opening title free device.state.bus.devices.keys
@@ -194,7 +194,7 @@ module _ (text title : List ℕ) (chapters : List Chapter) (free : Bool) (progra
         Breaks-more a b (written_of new texts) (run ++ page.tail) broke,
       )
 
--- what a call without a source of its own answers, as that of a text
+-- the answer of a call without a source of its own, as the answer for a text
 pub film-answers : {T : Type 0} (refuses : RunFault → Type 0) (gives others : T → List ℕ → Type 0) (a b : Taker)
     (r : Result T RunFault)
     → ((value : T) (output : List ℕ) → gives value output → others value output)
@@ -246,13 +246,13 @@ module _ (text title : List ℕ) (chapters : List Chapter) (keys : List ℕ) (wi
   alike : EndAlike code (code_of_run free program) start
   alike most end ends = meant free program keys most end (sound-of text program made) ends
 
-  -- the lines from there on are those of the text's run
+  -- from there on, the lines are those of the text's run
   lines_are : (cause : Cause) (run : List ℕ) → AreRunLines code (world_of_state new.state) window.steps cause run
       → AreRunLines (code_of_run free program) (world_of_state new.state) window.steps cause run
   lines_are cause run are =
       same-run code (code_of_run free program) (world_of_state new.state) window.steps cause run
       (subst (λ (w : World). EndAlike code (code_of_run free program) w) (sym before_is.reached)
-      (alike-behind code (code_of_run free program) start new.state.steps alike before_is.first)) are
+      (alike-following code (code_of_run free program) start new.state.steps alike before_is.first)) are
 
   pub few : new.state.steps < 4_294_967_296
   few = omega (arith, before_is.within, low)

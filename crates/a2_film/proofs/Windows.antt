@@ -1,4 +1,4 @@
--- A run from one of its worlds on is the rest of the run.
+-- A run that starts at one of its worlds is the rest of the run.
 use Rattle.std.specs.Prelude.{◌≡◌, ◌⊎◌, ℕ, zero, suc, ◌+◌, ◌-◌, ◌<◌, ◌≤◌, Some, None}
 use Rattle.std.proofs.Common.{sym, ap, ◌∙◌, subst, arith, inl, inr}
 use Rattle.a2_services.specs.World.{World}
@@ -14,20 +14,20 @@ shift code start m (suc k) =
     let all : suc (m + k) ≡ m + suc k = omega arith in
     ap (next code) (shift code start m k) ∙ ap (world_at code start) all
 
--- none of so many worlds is stuck
+-- none of the first n worlds is stuck
 abbrev pub Going : Code → World → ℕ → Type 0
 Going code start n = (k : ℕ) → k < n → stuck code (world_at code start k) ≡ None
 
 pub going-first : (code : Code) (start : World) (m n : ℕ) → m ≤ n → Going code start n → Going code start m
 going-first code start m n within going k low = going k (omega (arith, low, within))
 
-pub going-behind : (code : Code) (start : World) (m n : ℕ) → Going code start (m + n) → Going code (world_at code start m) n
-going-behind code start m n going k low =
+pub going-following : (code : Code) (start : World) (m n : ℕ) → Going code start (m + n) → Going code (world_at code start m) n
+going-following code start m n going k low =
     subst (λ (w : World). stuck code w ≡ None) (sym (shift code start m k)) (going (m + k) (omega (arith, low)))
 
 going-joined : (code : Code) (start : World) (m n : ℕ) → Going code start m → Going code (world_at code start m) n
     → Going code start (m + n)
-going-joined code start m n first behind k low = go (split m k)
+going-joined code start m n first following k low = go (split m k)
   where
     split : (m k : ℕ) → (k < m) ⊎ (m ≤ k)
     split m k = grind arith
@@ -37,9 +37,9 @@ going-joined code start m n first behind k low = go (split m k)
     go (inr above) =
         let all : m + (k - m) ≡ k = omega (arith, above) in
         subst (λ (j : ℕ). stuck code (world_at code start j) ≡ None) all
-        (subst (λ (w : World). stuck code w ≡ None) (shift code start m (k - m)) (behind (k - m) (omega (arith, low, above))))
+        (subst (λ (w : World). stuck code w ≡ None) (shift code start m (k - m)) (following (k - m) (omega (arith, low, above))))
 
--- an end, with so many steps before it
+-- an end, with m steps before it
 abbrev pub with_steps : ℕ → End → End
 with_steps m end = record { world = end.world; steps = m + end.steps; cause = end.cause }
 
@@ -70,6 +70,6 @@ pub end-split : (code : Code) (start : World) (m limit : ℕ) (end : End) → Is
 end-split code start m limit end is = record {
   within = omega (arith, is.within);
   reached = is.reached ∙ sym (shift code start m end.steps);
-  first = going-behind code start m end.steps is.first;
+  first = going-following code start m end.steps is.first;
   cause = why-split code m limit end is.cause;
 }

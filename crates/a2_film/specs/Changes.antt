@@ -1,4 +1,4 @@
--- What a step changes, as a row of a film says it, and the frames that such rows make. This project's profile.
+-- What a step changes, as a row of a film says it, and the frames that such rows give. This project's profile.
 use Rattle.std.specs.Prelude.{ℕ, zero, suc, ◌+◌, ◌-◌, ◌*◌, nat_lt, ◌==◌, List, [], ◌∷◌, length, if◌then◌else◌, Option, Some, None}
 use Rattle.std.specs.Prelude.{unwrap_or}
 use Rattle.a2_page.specs.declared.Switches.{Switches}
@@ -18,9 +18,9 @@ Store = ℕ × ℕ
 -- what a row says of a step
 pub record Change : Type 0 where
   pub pc : ℕ
-  -- that the step took
+  -- those of the step
   pub cycles : ℕ
-  -- of A, X, Y, S, the flags as a byte, and the switches as a digit, those that changed
+  -- the changed ones of A, X, Y, S, the flags as a byte, and the switches as a digit
   pub a : Option ℕ
   pub x : Option ℕ
   pub y : Option ℕ
@@ -31,7 +31,7 @@ pub record Change : Type 0 where
   pub keys : ℕ
   pub stores : List Store
 
--- the new number, where it is another than the old
+-- the new number, if it differs from the old
 abbrev pub changed : ℕ → ℕ → Option ℕ
 changed old new = if old == new then None else Some new
 
@@ -47,18 +47,18 @@ switches_of digit = record {
   hires = is_one_at 3 digit;
 }
 
--- the bytes of RAM at these addresses; an address that is no RAM's is left out
+-- the bytes of RAM at these addresses; an address that is not in RAM is left out
 abbrev pub bytes_at : (ℕ → ℕ) → List ℕ → List Store
 bytes_at byte_at [] = []
 bytes_at byte_at (a ∷ others) = if nat_lt a ram_end then (a, byte_at a) ∷ bytes_at byte_at others else bytes_at byte_at others
 
--- of so many addresses from one on, upwards, those whose byte is another than it was, with the new byte
+-- of so many addresses from one on, upwards, those whose byte changed, with the new byte
 unfoldable pub differing : (ℕ → ℕ) → (ℕ → ℕ) → ℕ → ℕ → List Store
 differing old new a zero = []
 differing old new a (suc n) = if old a == new a then differing old new (a + 1) n else (a, new a) ∷ differing old new (a + 1) n
 
--- What the step between two worlds stores in RAM: of an instruction each store, in order, also of the byte that was there.
--- A service writes into RAM with no log: so of a service's step the bytes that are others behind it.
+-- What the step between two worlds stores in RAM: for an instruction each store, in order, even of the byte that was there. A
+-- service writes into RAM without a log: so for a service's step these are the bytes that differ afterwards.
 unfoldable pub stored : World → World → List Store
 stored before after =
     elim (service_at before.registers.pc) [
@@ -67,7 +67,7 @@ stored before after =
           (stores_at memory_access (fetched (peek before.memory) before.registers.pc) before)
     ]
 
--- the change between two worlds, where these bytes are stored
+-- the change between two worlds, if these bytes are stored
 abbrev pub change_between : World → World → List Store → Change
 change_between before after stores =
     let old = before.registers in
@@ -93,7 +93,7 @@ change_of before after = change_between before after (stored before after)
 
 -- Frames
 
--- what a film shows of a world: the byte at each address of RAM, and all else
+-- what a film shows of a world: the byte at each address of RAM, and everything else
 pub record Frame : Type 0 where
   pub registers : Registers
   pub bytes : ℕ → ℕ

@@ -1,4 +1,4 @@
--- What private calls compare and answer. No public clause cites this file.
+-- What private calls compare and return. No public clause cites this file.
 use Rattle.std.specs.Prelude.{◌≡◌, ◌≢◌, ℕ, ◌+◌, ◌-◌, List, [], ◌∷◌, ◌++◌, All, length, if◌then◌else◌, slice_index, Option, Some}
 use Rattle.std.specs.Prelude.{None, Result, Ok, Err}
 use Rattle.std.specs.Fmt.{decimal}
@@ -20,7 +20,7 @@ use Rattle.a2_film.specs.Changes.{Store, changed, switch_digit, change_of}
 use Rattle.a2_film.specs.Runs.{AreRunLines}
 use Rattle.a2_film.specs.Rows.{fields_of_parts, byte_text, switches_text, keys_text, stores_text, row_text}
 
--- what a row compares, beside RAM
+-- what a row compares, besides RAM
 pub record Seen : Type 0 where
   pub registers : Registers
   pub cycles : ℕ
@@ -56,29 +56,30 @@ fields_between before after =
 
 -- a text is cut at its first blank
 abbrev pub IsCut : List ℕ → List ℕ → List ℕ → Type 0
-IsCut text front behind = (text ≡ front ++ 0x20 ∷ behind) × All (λ c. c ≢ 0x20) front
+IsCut text front following = (text ≡ front ++ 0x20 ∷ following) × All (λ c. c ≢ 0x20) front
 
 -- where the bytes below page 1 end that a call of a service may change: the line of GETLN, or the mask of characters
 abbrev pub low_end : Service → ℕ
 low_end service = if reach service 0x2FF then 0x300 else 0x33
 
--- how many bytes rows have room for, and with how many at most there is room for one more
+-- how many bytes rows have room for, and up to how many there is room for another row
 abbrev pub rows_room : ℕ
 rows_room = 13424
 
 abbrev pub most_kept : ℕ
 most_kept = 1024
 
--- the address behind the last of these stores, or the one given where there is none
-abbrev pub next_behind : ℕ → List Store → ℕ
-next_behind next [] = next
-next_behind next (store ∷ stores) = next_behind (store.0 + 1) stores
+-- the address after the last of these stores, or the given one if there are none
+abbrev pub next_following : ℕ → List Store → ℕ
+next_following next [] = next
+next_following next (store ∷ stores) = next_following (store.0 + 1) stores
 
--- the text of these stores stands behind a row, where a byte at the first number would need no m; nor would one at the second now
+-- the text of these stores is after a row, if a byte at the first number needs no m; after it, a byte at the second number needs
+-- none
 abbrev pub Appends : List ℕ → ℕ → List Store → List ℕ → ℕ → Type 0
-Appends row next stores new last = (new ≡ row ++ stores_text next stores) × (last ≡ next_behind next stores)
+Appends row next stores new last = (new ≡ row ++ stores_text next stores) × (last ≡ next_following next stores)
 
--- the byte at an address, of bytes that stand from another on
+-- the byte at an address, from bytes that begin at another
 abbrev pub from_address : ℕ → List ℕ → ℕ → ℕ
 from_address first bytes a = slice_index bytes (a - first)
 
@@ -86,23 +87,23 @@ from_address first bytes a = slice_index bytes (a - first)
 abbrev pub row_between : Device → Device → List ℕ
 row_between old new = row_text (change_of (world_of_state old.state) (world_of_state new.state))
 
--- a step was made and its row stands behind the others; or a cause forbids the step, and nothing was done
+-- a step was executed and its row is after the others; or a cause forbids the step, and nothing was done
 abbrev pub FilmsStep : Device → Device → List ℕ → List ℕ → Option Cause → Type 0
 FilmsStep old new rows after None = (None ≡ cause_of old.state) × IsStep old new × (after ≡ rows ++ row_between old new)
 FilmsStep old new rows after (Some cause) = (Some cause ≡ cause_of old.state) × (new ≡ old) × (after ≡ rows)
 
--- a front of the rows went out, and the others are kept; or a write failed behind a front
+-- a front of the rows was written, and the others are kept; or a write failed after a front
 abbrev pub HandsOn : {T E : Type 0} → Taker → Taker → List ℕ → List ℕ → Result T E → Type 0
 HandsOn a b rows kept (Ok _) = (sent : List ℕ) × (rows ≡ sent ++ kept) × Sends a b sent
 HandsOn a b rows kept (Err _) = Breaks a b rows
 
--- the lines of a run went out; or a front of them, and a write failed
+-- the lines of a run were written; or a front of them, and a write failed
 abbrev pub Films : Code → World → ℕ → Taker → Taker → Result Cause WriteFault → Type 0
 Films code start limit old new (Ok cause) = (output : List ℕ) × AreRunLines code start limit cause output × Sends old new output
 Films code start limit old new (Err _) = (cause : Cause) × (output : List ℕ) × AreRunLines code start limit cause output
     × Breaks old new output
 
--- the same with the end of the page behind them
+-- the same with the end of the page after them
 abbrev pub FilmsRest : Code → World → ℕ → Taker → Taker → Result Cause WriteFault → Type 0
 FilmsRest code start limit old new (Ok cause) = (output : List ℕ) × AreRunLines code start limit cause output
     × Sends old new (output ++ page.tail)

@@ -1,4 +1,4 @@
--- Laws of films.
+-- Laws about films.
 use Rattle.std.specs.Prelude.{◌≡◌, ◌≢◌, ℕ, ◌+◌, ◌^◌, ◌<◌, ◌≤◌, Bool, List, ◌++◌, IfSome, All}
 use Rattle.std.specs.List.{flat_map}
 use Rattle.a2_bus.specs.Memory.{ram_byte, ram_end}
@@ -20,9 +20,9 @@ pub record Shows (frame : Frame) (world : World) : Type 0 where
   pub devices : frame.devices ≡ world.memory.devices
   pub cycles : frame.cycles ≡ world.cycles
 
--- with each text, keys and limit, for each two numbers whose sum is no more than the steps that are made: the world that the
--- run's meaning gives at the first, with as many of the changes behind it as the second says, is the world that the meaning
--- gives at the sum
+-- for any text, keys and limit, and any two numbers whose sum is at most the steps that are executed: the world that the run's
+-- meaning gives at the first, with as many of the changes after it as the second says, is the world that the meaning gives at the
+-- sum
 abbrev pub FramesShowTheRun : Type 0
 FramesShowTheRun =
     (text keys : List ℕ) (limit : ℕ) (free : Bool) (program : Assembled) (end : End) → IsProgramOf text program
@@ -31,7 +31,7 @@ FramesShowTheRun =
     let start = start_of_run program keys in
     Shows (frame_at code (world_at code start from) n) (world_at code start (from + n))
 
--- no byte is <, which alone could end a script or open a tag
+-- no byte is <, the only one that could end a script or begin a tag
 abbrev pub HasNoTag : List ℕ → Type 0
 HasNoTag text = All (λ c. c ≢ 0x3C) text
 

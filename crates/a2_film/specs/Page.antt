@@ -1,4 +1,4 @@
--- The page of a film: the bytes that stand before its data, and those that stand behind them. This project's own.
+-- The page of a film: the bytes before its data, and those after them. This project's own.
 use Rattle.std.specs.Prelude.{ℕ, List}
 use Rattle.a2_film.specs.declared.viewer.TheConstants.{HEAD, TAIL}
 

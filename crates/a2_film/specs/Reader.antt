@@ -1,4 +1,4 @@
--- A reader of a film's rows, by the form that the manual tells. This project's profile.
+-- A reader of a film's rows, in the form that the manual describes. This project's profile.
 use Rattle.std.specs.Prelude.{ℕ, zero, suc, ◌+◌, ◌==◌, if◌then◌else◌, List, [], ◌∷◌, length, take, drop, get_or, Option, Some}
 use Rattle.std.specs.Prelude.{None}
 use Rattle.std.specs.List.{prefix_len}
@@ -6,32 +6,32 @@ use Rattle.std.specs.Char.{is_digit}
 use Rattle.std.specs.Str.Parse.{digits_value}
 use Rattle.a2_film.specs.Changes.{Store, Change}
 
--- the byte that stands first; an empty text is at a line's end
+-- the first byte; an empty text is at a line's end
 abbrev pub first : List ℕ → ℕ
 first text = get_or text 0 0x0A
 
--- the number that so many hexadecimal digits say
+-- the number with these hexadecimal digits
 abbrev pub hex_number : ℕ → List ℕ → ℕ
 hex_number count text = digits_value 16 (take count text)
 
--- how many decimal digits stand first, and the number that they say
+-- how many decimal digits are at the beginning, and their number
 abbrev pub digit_count : List ℕ → ℕ
 digit_count text = prefix_len (λ c. is_digit c 10) text
 
 abbrev pub decimal_number : List ℕ → ℕ
 decimal_number text = digits_value 10 (take (digit_count text) text)
 
--- what so many hexadecimal digits behind a letter say, if that stands first; and what stands behind
+-- the number of so many hexadecimal digits after a letter, if that is the first byte; and what follows
 abbrev pub field : ℕ → ℕ → List ℕ → Option ℕ × List ℕ
 field letter count text =
     if first text == letter then (Some (hex_number count (drop 1 text)), drop (count + 1) text) else (None, text)
 
--- how many keys were taken, and what stands behind
+-- how many keys were taken, and what follows
 abbrev pub keys_field : List ℕ → ℕ × List ℕ
 keys_field text =
     if first text == 0x6B then (decimal_number (drop 1 text), drop (digit_count (drop 1 text)) (drop 1 text)) else (0, text)
 
--- so many stores at most, up to the line's end, where the next address is known; and what stands behind the line
+-- at most so many stores, up to the line's end, if the next address is known; and what follows the line
 unfoldable pub stores_field : ℕ → ℕ → List ℕ → List Store × List ℕ
 stores_field zero next text = ([], text)
 stores_field (suc most) next text =
@@ -41,7 +41,7 @@ stores_field (suc most) next text =
     ((hex_number 4 (drop 1 text), hex_number 2 (drop 5 text)) ∷ rest.0, rest.1))
     else (let rest = stores_field most (next + 1) (drop 2 text) in ((next, hex_number 2 text) ∷ rest.0, rest.1))
 
--- a row, and what stands behind its line
+-- a row, and what follows its line
 unfoldable pub read_row : List ℕ → Change × List ℕ
 read_row text =
     let numbers = drop 4 text in
@@ -68,7 +68,7 @@ read_row text =
       stores.1,
     )
 
--- so many rows at most
+-- at most so many rows
 unfoldable pub read_rows : ℕ → List ℕ → List Change
 read_rows zero text = []
 read_rows (suc most) [] = []

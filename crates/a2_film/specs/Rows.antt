@@ -1,4 +1,4 @@
--- How a film is spelt: a row a step, and what stands before the rows. This project's profile.
+-- How a film is spelt: a row for each step, and what is before the rows. This project's profile.
 use Rattle.std.specs.Prelude.{ℕ, ◌+◌, nat_le, ◌==◌, Bool, not, ◌&&◌, List, [], ◌∷◌, ◌++◌, codes, if◌then◌else◌, Option, Some}
 use Rattle.std.specs.Prelude.{None, is_some}
 use Rattle.std.specs.List.{concat, flat_map}
@@ -17,7 +17,7 @@ use Rattle.a2_film.specs.Changes.{Store, Change, switch_digit, differing}
 
 -- Rows
 
--- a letter and a byte's digits, where there is a byte
+-- a letter and a byte's digits, if there is a byte
 abbrev pub byte_text : ℕ → Option ℕ → List ℕ
 byte_text letter None = []
 byte_text letter (Some byte) = letter ∷ hex_pair byte
@@ -27,20 +27,20 @@ abbrev pub switches_text : Option ℕ → List ℕ
 switches_text None = []
 switches_text (Some digit) = 0x77 ∷ hex_digit digit ∷ []
 
--- k and a number, where it is not 0
+-- k and a number, if it is not 0
 abbrev pub keys_text : ℕ → List ℕ
 keys_text taken = if taken == 0 then [] else 0x6B ∷ decimal taken
 
--- a byte's digits; before them m and the address, where it is not the next one
+-- a byte's digits; before them m and the address, if it is not the next one
 abbrev pub store_text : ℕ → Store → List ℕ
 store_text next store = (if store.0 == next then [] else 0x6D ∷ hex_word store.0) ++ hex_pair store.1
 
--- stores one after another, where a byte at the first address would need no m
+-- stores one after another, if a byte at the first address needs no m
 abbrev pub stores_text : ℕ → List Store → List ℕ
 stores_text next [] = []
 stores_text next (store ∷ stores) = store_text next store ++ stores_text (store.0 + 1) stores
 
--- an address behind all others
+-- an address after all others
 abbrev pub no_address : ℕ
 no_address = 0x10000
 
@@ -58,9 +58,9 @@ fields_text change =
 abbrev pub row_text : Change → List ℕ
 row_text change = fields_text change ++ (stores_text no_address change.stores ++ codes "\n")
 
--- What stands before the rows
+-- What is before the rows
 
--- plain text: printable characters stand for themselves, but for < and \; another byte is \ and its digits
+-- plain text: printable characters are themselves, except < and \; another byte is \ and its digits
 abbrev pub plain_byte : ℕ → List ℕ
 plain_byte c =
     if nat_le 0x20 c && nat_le c 0x7E && not (c == 0x3C) && not (c == 0x5C) then c ∷ [] else 0x5C ∷ hex_pair c
@@ -83,7 +83,7 @@ guard_text free = if free then codes "G FREE\nK " else codes "G GUARDED\nK "
 abbrev pub opening : List ℕ → Bool → List ℕ → List ℕ
 opening title free keys = title_lines title ++ (guard_text free ++ (digits_of_bytes keys ++ codes "\n"))
 
--- where a chapter begins: at a step of the run, or where a line of the source first comes next
+-- where a chapter begins: at a step of the run, or when a line of the source is first the next one
 abbrev pub place_text : Place → List ℕ
 place_text (Step number) = codes "C " ++ decimal number
 place_text (Line number) = codes "D " ++ decimal number
@@ -96,14 +96,14 @@ chapter_line chapter = place_text chapter.place ++ (codes " " ++ (plain_text cha
 abbrev pub source_line : List ℕ → List ℕ
 source_line text = codes "S " ++ (plain_text text ++ codes "\n")
 
--- how many bytes a statement lays: DS lays none
+-- how many bytes a statement puts in the image; DS puts none
 abbrev pub laid : (ℕ → Option ℕ) → Statement → ℕ
 laid image statement = if is_some (image statement.addr) then statement.length else 0
 
 unfoldable pub line_of_statement : List ℕ → List ℕ → List ℕ → List ℕ
 line_of_statement line addr count = concat (codes "L " ∷ line ∷ codes " " ∷ addr ∷ codes " " ∷ count ∷ codes "\n" ∷ [])
 
--- a statement: the number of its line, its address, and how many bytes it lays
+-- a statement: the number of its line, its address, and how many bytes it puts in the image
 abbrev pub statement_line : (ℕ → Option ℕ) → Statement → List ℕ
 statement_line image statement = line_of_statement (decimal statement.line) (hex_word statement.addr)
     (decimal (laid image statement))
@@ -118,7 +118,7 @@ program_lines program texts =
     flat_map source_line texts ++ (flat_map (statement_line (held program.image)) program.statements
     ++ flat_map name_line program.names)
 
--- the film begins behind so many steps and cycles of the run
+-- the film begins after so many steps and cycles of the run
 unfoldable pub line_of_counts : List ℕ → List ℕ → List ℕ
 line_of_counts steps cycles = concat (codes "B " ∷ steps ∷ codes " " ∷ cycles ∷ codes "\n" ∷ [])
 
@@ -139,6 +139,6 @@ registers_line start =
     (hex_pair registers.s)
     (hex_pair (byte_of_flags registers.flags)) (hex_digit (switch_digit start.memory.devices.switches))
 
--- the start of a film, behind so many steps of the run
+-- the start of a film, after so many steps of the run
 abbrev pub start_lines : ℕ → World → List ℕ
 start_lines steps start = line_of_counts (decimal steps) (decimal start.cycles) ++ (memory_line start ++ registers_line start)

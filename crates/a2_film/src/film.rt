@@ -9,8 +9,7 @@ ghost use Rattle.a2_machine.specs.ByteRun.{bytes};
 ghost use Rattle.a2_machine.specs.Output as output;
 ghost use Rattle.a2_machine.specs.State.{code_of, world_of_state, IsMachineRun};
 ghost use Rattle.a2_services.specs.Services.{service_at as service_at_of};
-ghost use Rattle.a2_run.specs.Answers.{Answers, OfSource, is_read_fault};
-ghost use Rattle.a2_run.specs.Meaning.{IsRefused};
+ghost use Rattle.a2_run.specs.Answers.{Answers, is_read_fault};
 ghost use Rattle.a2_run.specs.Started.{guard_of_run};
 ghost use Rattle.a2_film.specs.Page as page;
 ghost use Rattle.a2_film.specs.Film.{IsFilmFrom, IsFilmOf};
@@ -27,22 +26,51 @@ use a2_asm::Program;
 use a2_bus::Keys;
 use a2_hex::RAM_END;
 use a2_machine::{Cause, Machine, write_cause};
-use a2_run::{RunFault, program_of, started};
+use a2_run::{AssembledText, RunFault, started};
 use a2_services::{Service, service_at};
 use a2_stream::{Output, WriteFault, put};
 use a2_text::cut;
-use std::alloc::{AllocError, Allocator};
+use std::alloc::{AllocError, Allocator, Global};
 
 /// The part of a run that a film shows.
 #[derive(Clone, Copy, Drop)]
 pub struct Window {
-    /// Behind how many steps of the run it begins. A run that ends before is shown as it ends.
+    /// After how many steps of the run it begins. A run that ends before that is shown at its end.
     pub from: u32,
     /// How many steps it has at most.
     pub steps: u32,
 }
 
-// Makes the call of a service and appends its row; or answers the cause that forbids it.
+/// The texts of a film besides its run.
+#[derive(Clone, Copy)]
+pub struct Titles<'a> {
+    /// The title of the page: any bytes.
+    pub title: &'a [u8],
+    /// What the page says along the way, in any order.
+    pub chapters: &'a [Chapter<'a>],
+}
+
+/// The run of a program of which a film shows a part.
+#[derive(Clone, Copy)]
+pub struct FilmedRun<'a> {
+    /// The keys that wait at the start of the run.
+    pub keys: &'a Keys,
+    pub window: Window,
+    /// Runs without the guard of the program's code.
+    pub free: bool,
+}
+
+/// A run that is filmed from where a machine is.
+#[derive(Drop)]
+pub struct Reel<A: Allocator = Global> {
+    pub machine: Machine<A>,
+    /// The most steps of the film, 0 to 2^32 - 1.
+    pub limit: u32,
+    /// Runs without the guard of the program's code, whatever the machine's guard was.
+    pub free: bool,
+}
+
+// Calls a service and appends its row, or returns the cause that forbids the call.
 fn film_call<A: Allocator>(
     service: Service,
     machine: &mut Machine<A>,
@@ -71,7 +99,7 @@ fn film_call<A: Allocator>(
     None
 }
 
-// Does an instruction and appends its row; or answers the cause that forbids it.
+// Executes an instruction and appends its row, or returns the cause that forbids it.
 fn film_instruction<A: Allocator>(
     machine: &mut Machine<A>,
     seen: &mut Moment,
@@ -95,7 +123,7 @@ fn film_instruction<A: Allocator>(
     None
 }
 
-// Makes a step and appends its row; or answers the cause that forbids it. `seen` is the moment before the next step.
+// Executes a step and appends its row, or returns the cause that forbids it. `seen` is the moment before the next step.
 fn film_step<A: Allocator>(
     machine: &mut Machine<A>,
     seen: &mut Moment,
@@ -114,7 +142,7 @@ fn film_step<A: Allocator>(
     }
 }
 
-// Writes the rows, where there is no room for one more.
+// Writes the rows if there is no room for another.
 fn put_many<W: Output>(rows: &mut Rows, writer: &mut W) -> Result<(), WriteFault>
     ensures rows { HandsOn (W.taker writer.old) (W.taker writer.new) rows.old.items rows.new.items result }
     ensures room { IfOk result (λ _. array_vec_len rows.new ≤ most_kept) }
@@ -126,7 +154,7 @@ fn put_many<W: Output>(rows: &mut Rows, writer: &mut W) -> Result<(), WriteFault
     Ok(())
 }
 
-// Writes the rows that are left and the cause line, and answers the cause.
+// Writes the rows that are left and the cause line. Returns the cause.
 #[tactic(auto, using(a2_stream::proofs::Joined::broke_off, a2_stream::proofs::Joined::went_on))]
 fn put_end<W: Output>(rows: &Rows, cause: Cause, writer: &mut W) -> Result<Cause, WriteFault>
     ensures lines { SendsOrBreaks (W.taker writer.old) (W.taker writer.new) result (rows.now.items ++ output.cause_line cause) }
@@ -137,7 +165,7 @@ fn put_end<W: Output>(rows: &Rows, cause: Cause, writer: &mut W) -> Result<Cause
     Ok(cause)
 }
 
-// Makes the steps of a run, and writes a row of each; and then the cause line.
+// Executes the steps of a run, and writes a row for each; then writes the cause line.
 fn film_steps<A: Allocator, W: Output>(
     machine: &mut Machine<A>,
     ram: &mut [u8],
@@ -161,16 +189,16 @@ fn film_steps<A: Allocator, W: Output>(
     put_end(&rows, cause, writer)
 }
 
-// Makes so many steps, or those up to the run's end.
+// Executes so many steps, or those up to the run's end.
 fn go_on<A: Allocator>(machine: &mut Machine<A>, steps: u32) -> Cause
     ensures run { IsMachineRun steps machine.old machine.new result }
-    // For the prover alone: a caller has the number in a field, of which no range is known there.
+    // For the prover alone: a caller has the number in a field, whose range is not known there.
     ensures range { steps < 4_294_967_296 }
 {
     machine.run(steps)
 }
 
-// RAM that is 0 everywhere.
+// Returns RAM that is 0 everywhere.
 #[tactic(auto, using(crate::proofs::Parts::zeros_anywhere))]
 fn blank_ram<A: Allocator>(alloc: A, size: usize) -> Result<Vec<u8, A>, AllocError>
     ensures size { IfOk result (λ ram. length ram.items ≡ size) }
@@ -182,8 +210,7 @@ fn blank_ram<A: Allocator>(alloc: A, size: usize) -> Result<Vec<u8, A>, AllocErr
 // Writes the page up to the rows: `ram` is 0 everywhere.
 #[tactic(auto, using(a2_stream::proofs::Joined::broke_off, a2_stream::proofs::Joined::went_on))]
 fn put_head<A: Allocator, W: Output>(
-    title: &[u8],
-    chapters: &[Chapter<'_>],
+    titles: Titles<'_>,
     texts: &[&[u8]],
     free: bool,
     program: &Program<A>,
@@ -194,19 +221,19 @@ fn put_head<A: Allocator, W: Output>(
     requires size { length ram.now ≡ ram_end }
     requires zeros { (a : ℕ) → slice_index ram.now a ≡ 0 }
     ensures { SendsOrBreaks (W.taker writer.old) (W.taker writer.new) result
-        (page.head ++ (spelt.opening title.now free machine.now.state.bus.devices.keys
-        ++ (flat_map spelt.chapter_line chapters.now
+        (page.head ++ (spelt.opening titles.entry.title.now free machine.now.state.bus.devices.keys
+        ++ (flat_map spelt.chapter_line titles.entry.chapters.now
         ++ (spelt.program_lines program.now (map (λ x. x.now) texts.now)
         ++ spelt.start_lines machine.now.state.steps (world_of_state machine.now.state))))) }
 {
     put(head(), writer)?;
-    put_opening(title, free, machine.space().waiting(), writer)?;
-    put_chapters(chapters, writer)?;
+    put_opening(titles.title, free, machine.space().waiting(), writer)?;
+    put_chapters(titles.chapters, writer)?;
     put_program(program, texts, writer)?;
     put_start(ram, machine, writer)
 }
 
-// Makes a run from its start, and writes its rows with the end of the page.
+// Runs a machine, and writes the rows and the end of the page.
 fn film_rest<A: Allocator, W: Output>(
     machine: &mut Machine<A>,
     ram: &mut [u8],
@@ -235,37 +262,36 @@ fn guard_by<A: Allocator>(machine: &mut Machine<A>, program: &Program<A>, free: 
     }
 }
 
-/// Writes the film of the run that a machine makes from where it stands, of `limit` steps at most: one page of HTML that shows it
-/// forwards and backwards. The run is guarded by `program`, or `free`, whatever the machine's guard was; `source` is the text of
-/// the program, whose lines the page shows. `title` is any bytes, which the page shows as its title, and `chapters` are what it
-/// tells on the way, in any order. Rows are written as the run goes, and nothing of it is kept. The cause is that of the run's
-/// end, and `Cause::Limit` where the steps end before. Refused where a write fails, and for want of memory. This project's
-/// profile.
+/// Writes the film of a run of an assembled text from where a machine is: one page of HTML that shows it forwards and backwards, with
+/// the lines of the text. The run is guarded by the text's program, or `free`. Rows are written as the run goes, and nothing of it is
+/// kept. Returns the cause of the run's end, and `Cause::Limit` if the steps end before. Fails if a write fails, or if there is not
+/// enough memory. This project's profile.
 pub fn film_run<A: Allocator + Copy, W: Output>(
     alloc: A,
-    source: &[u8],
-    program: &Program<A>,
-    title: &[u8],
-    chapters: &[Chapter<'_>],
-    machine: Machine<A>,
-    limit: u32,
-    free: bool,
+    assembled: &AssembledText<'_, A>,
+    titles: Titles<'_>,
+    reel: Reel<A>,
     writer: &mut W,
 ) -> Result<Cause, RunFault>
-    // A machine makes 1,000,000,000,000 steps at most from its start.
-    requires { machine.state.steps < 4_294_967_296 }
-    ensures meaning { Answers (λ _. ⊥) (IsFilmFrom source.now title.now chapters.now free program.now
-        (bytes (guard_of_run free program.now)) machine.state.steps (world_of_state machine.state) limit)
+    // A machine executes at most 1,000,000,000,000 steps from its start.
+    requires { reel.machine.state.steps < 4_294_967_296 }
+    ensures meaning { Answers (λ _. ⊥) (IsFilmFrom assembled.now.text titles.entry.title.now titles.entry.chapters.now reel.free
+        assembled.now.program (bytes (guard_of_run reel.free assembled.now.program)) reel.machine.state.steps
+        (world_of_state reel.machine.state) reel.limit)
         (W.taker writer.old) (W.taker writer.new) result }
     ensures no_reader { is_read_fault result ≡ false }
 {
-    let texts = cut(alloc, source)?;
+    let Reel {
+        mut machine,
+        limit,
+        free,
+    } = reel;
+    let program = assembled.program();
+    let texts = cut(alloc, assembled.text())?;
     let mut ram = blank_ram(alloc, usize::from(RAM_END))?;
-    let mut machine = machine;
     guard_by(&mut machine, program, free);
     put_head(
-        title,
-        chapters,
+        titles,
         texts.as_slice(),
         free,
         program,
@@ -277,36 +303,27 @@ pub fn film_run<A: Allocator + Copy, W: Output>(
     Ok(cause)
 }
 
-/// Assembles and runs a source with these keys waiting, and writes the film of a window of its run, as [`film_run`] does.
-/// `Cause::Limit` is the cause where the window ends before the run. Refused where the source is, where a write fails, and for
-/// want of memory. This project's profile.
+/// Runs a source and writes the film of a window of its run, as [`film_run`] does. Returns the cause of the run's end, and
+/// `Cause::Limit` if the window ends before the run. Fails if a write fails, or if there is not enough memory. This project's profile.
 pub fn film_source<A: Allocator + Copy, W: Output>(
     alloc: A,
-    source: &[u8],
-    title: &[u8],
-    chapters: &[Chapter<'_>],
-    keys: &Keys,
-    window: Window,
-    free: bool,
+    assembled: &AssembledText<'_, A>,
+    titles: Titles<'_>,
+    run: FilmedRun<'_>,
     writer: &mut W,
 ) -> Result<Cause, RunFault>
-    ensures meaning { Answers (OfSource (IsRefused source.now)) (IsFilmOf source.now title.now chapters.now keys.now window free)
-        (W.taker writer.old) (W.taker writer.new) result }
+    ensures meaning { Answers (λ _. ⊥) (IsFilmOf assembled.now.text titles.entry.title.now titles.entry.chapters.now
+        run.entry.keys.now run.entry.window run.entry.free) (W.taker writer.old) (W.taker writer.new) result }
     ensures no_reader { is_read_fault result ≡ false }
 {
-    let program = program_of(alloc, source)?;
-    let mut machine = started(alloc, &program, keys, free)?;
-    // (a run that ends before the window is filmed as it ends: its cause comes again behind the rows)
-    let _ = go_on(&mut machine, window.from);
-    film_run(
-        alloc,
-        source,
-        &program,
-        title,
-        chapters,
+    let program = assembled.program();
+    let mut machine = started(alloc, program, run.keys, run.free)?;
+    // (a run that ends before the window is filmed at its end: its cause comes again after the rows)
+    let _ = go_on(&mut machine, run.window.from);
+    let reel = Reel {
         machine,
-        window.steps,
-        free,
-        writer,
-    )
+        limit: run.window.steps,
+        free: run.free,
+    };
+    film_run(alloc, assembled, titles, reel, writer)
 }

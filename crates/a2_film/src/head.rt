@@ -1,4 +1,4 @@
-//! What stands before the rows.
+//! What is before the rows.
 
 ghost use Rattle.std.specs.Prelude.{◌≡◌, ◌++◌, ℕ, length, map, codes, slice_index};
 ghost use Rattle.std.specs.List.{flat_map};
@@ -23,7 +23,7 @@ use a2_stream::{Output, WriteFault, put, put_all};
 use a2_text::{decimal, hex_pair, hex_word};
 use std::alloc::Allocator;
 
-// How many bytes of RAM go out at a time, and how often.
+// How many bytes of RAM are written at a time, and how often.
 const PIECE_LEN: u16 = 256;
 
 const PIECES: u16 = RAM_END / PIECE_LEN;
@@ -36,7 +36,7 @@ fn put_title<W: Output>(title: &[u8], writer: &mut W) -> Result<(), WriteFault>
     put_between(b"FILM 1\nT ", title, b"\n", writer)
 }
 
-// Whether the run has no guard, up to its keys.
+// Returns whether the run has no guard, up to its keys.
 fn guard_text(free: bool) -> &'static [u8]
     ensures { result.now ≡ spelt.guard_text free }
 {
@@ -58,7 +58,7 @@ fn put_conditions<W: Output>(free: bool, keys: &[u8], writer: &mut W) -> Result<
     put(b"\n", writer)
 }
 
-/// Writes what stands first.
+/// Writes the beginning.
 #[tactic(auto, using(a2_stream::proofs::Joined::broke_off, a2_stream::proofs::Joined::went_on))]
 pub fn put_opening<W: Output>(
     title: &[u8],
@@ -119,7 +119,7 @@ fn put_source<W: Output>(texts: &[&[u8]], writer: &mut W) -> Result<(), WriteFau
     Ok(())
 }
 
-// How many bytes a statement lays: DS lays none.
+// Returns how many bytes a statement puts in the image; DS puts none.
 fn laid<A: Allocator>(image: &Image<A>, statement: &Statement) -> u16
     ensures { result ≡ spelt.laid (held image.now) statement.now }
 {
@@ -210,7 +210,7 @@ pub fn put_program<A: Allocator, W: Output>(
     put_names(program.names(), writer)
 }
 
-// Writes how many steps and cycles of the run stand before the film.
+// Writes how many steps and cycles of the run are before the film.
 #[tactic(auto, unfolding(crate::specs::Rows::line_of_counts))]
 fn put_counts<W: Output>(steps: u64, cycles: u64, writer: &mut W) -> Result<(), WriteFault>
     ensures { SendsOrBreaks (W.taker writer.old) (W.taker writer.new) result
@@ -228,7 +228,7 @@ fn put_counts<W: Output>(steps: u64, cycles: u64, writer: &mut W) -> Result<(), 
     )
 }
 
-// Writes the bytes of RAM that are others than these.
+// Writes the bytes of RAM that differ from these.
 fn put_differing<A: Allocator, W: Output>(
     old: &[u8],
     machine: &Machine<A>,
@@ -253,7 +253,7 @@ fn put_differing<A: Allocator, W: Output>(
     Ok(())
 }
 
-// Writes RAM behind a piece, where it is other than `blank`.
+// Writes RAM after a piece, where it differs from `blank`.
 #[tactic(auto, using(a2_stream::proofs::Joined::broke_off, a2_stream::proofs::Joined::went_on))]
 fn put_ram<A: Allocator, W: Output>(
     front: &[u8],

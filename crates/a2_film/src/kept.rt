@@ -1,4 +1,4 @@
-//! The bytes of RAM that a call of a service may change: as they were before it, and those that are others behind it.
+//! The bytes of RAM that a call of a service may change: as they were before it, and those that differ after it.
 
 ghost use Rattle.std.specs.Prelude.{◌≡◌, ◌<◌, ◌≤◌, ◌+◌, ◌-◌, ◌*◌, ◌++◌, ℕ, length, slice_index, slice_range};
 ghost use Rattle.arrayvec.specs.ArrayVec.{array_vec_len};
@@ -26,7 +26,7 @@ const PIECES: u16 = 16;
 
 const PIECE_LEN: u16 = 64;
 
-/// Where the bytes below page 1 end that a call of a service may change. The first of them is CH.
+/// Returns where the bytes below page 1 end that a call of a service may change. The first of them is CH.
 pub fn low_end(service: Service) -> u16
     ensures { result ≡ low_end_of service }
 {
@@ -37,7 +37,7 @@ pub fn low_end(service: Service) -> u16
     }
 }
 
-/// Copies the bytes of RAM from CH on up to an end.
+/// Copies the bytes of RAM from CH up to an end.
 pub fn keep_low<A: Allocator>(end: u16, machine: &Machine<A>, ram: &mut [u8])
     requires end { end ≤ ram_end }
     requires size { length ram.old ≡ ram_end }
@@ -49,8 +49,8 @@ pub fn keep_low<A: Allocator>(end: u16, machine: &Machine<A>, ram: &mut [u8])
     }
 }
 
-// Appends the bytes of RAM from `first` on up to `end` that are others than these, where it has those of `now` there: none, if
-// both are the same.
+// Appends the bytes of RAM from `first` up to `end` that differ from these, if `now` has those that are there: none, if both are
+// the same.
 fn append_piece<A: Allocator>(
     rows: &mut Rows,
     next: u32,
@@ -75,7 +75,7 @@ fn append_piece<A: Allocator>(
     append_others(rows, next, first, end, old, machine)
 }
 
-// Appends the bytes of page 1 that are others than these.
+// Appends the bytes of page 1 that differ from these.
 fn append_page<A: Allocator>(
     rows: &mut Rows,
     next: u32,
@@ -109,8 +109,7 @@ fn append_page<A: Allocator>(
     last
 }
 
-/// Appends the bytes of RAM that are others than before a call of a service: `ram` has those below page 1 from CH on up to an
-/// end.
+/// Appends the bytes of RAM that differ from those before a call of a service: `ram` has those below page 1 from CH up to an end.
 pub fn append_changes<A: Allocator>(
     rows: &mut Rows,
     end: u16,

@@ -21,10 +21,10 @@ use a2_text::{append, decimal};
 use arrayvec::ArrayVec;
 use std::alloc::Allocator;
 
-/// Behind all addresses.
+/// The address after all others.
 pub const NO_ADDRESS: u32 = 0x10000;
 
-/// What a row compares before a step and behind it, beside RAM.
+/// What a row compares before a step and after it, besides RAM.
 #[derive(Clone, Copy)]
 pub struct Moment {
     regs: Regs,
@@ -34,7 +34,7 @@ pub struct Moment {
 }
 
 impl Moment {
-    /// A machine as it stands.
+    /// Returns the moment of a machine.
     pub fn of<A: Allocator>(machine: &Machine<A>) -> Moment
         ensures { seen_by result ≡ seen_of (world_of_state machine.now.state) }
     {
@@ -47,11 +47,11 @@ impl Moment {
     }
 }
 
-/// With how many bytes at most rows have room for one more: up to its stores it has at most 62, each store at most 7, and a step
+/// Up to how many bytes rows have room for another: before its stores it has at most 62 bytes, each store has at most 7, and a step
 /// has at most 1,756 of them.
 pub const MOST_KEPT: usize = 1_024;
 
-/// Rows that are still to go out.
+/// Rows that are still to be written.
 pub type Rows = ArrayVec<u8, 13_424>;
 
 // Appends a number in decimal digits.
@@ -88,7 +88,7 @@ fn append_address(rows: &mut Rows, address: u16)
     append_digits(rows, (address % 256) as u8);
 }
 
-// Appends a letter and the digits of a byte, where it is another than it was.
+// Appends a letter and the digits of a byte, if it changed.
 fn append_byte(rows: &mut Rows, letter: u8, old: u8, new: u8)
     requires { array_vec_len rows.old + 3 ≤ rows_room }
     ensures items { rows.new.items ≡ rows.old.items ++ spelt.byte_text letter (changed old new) }
@@ -100,7 +100,7 @@ fn append_byte(rows: &mut Rows, letter: u8, old: u8, new: u8)
     }
 }
 
-// Appends w and the switches' digit, where it is another than it was.
+// Appends w and the switches' digit, if it changed.
 fn append_switches(rows: &mut Rows, old: Switches, new: Switches)
     requires { array_vec_len rows.old + 2 ≤ rows_room }
     ensures items { rows.new.items
@@ -117,7 +117,7 @@ fn append_switches(rows: &mut Rows, old: Switches, new: Switches)
     }
 }
 
-// Appends k and how many keys were taken, where there are any.
+// Appends k and how many keys were taken, if there are any.
 fn append_keys(rows: &mut Rows, taken: usize)
     requires { array_vec_len rows.old + 21 ≤ rows_room }
     ensures items { rows.new.items ≡ rows.old.items ++ spelt.keys_text taken }
@@ -147,7 +147,8 @@ fn append_fields(rows: &mut Rows, before: &Moment, after: &Moment)
     append_keys(rows, before.waiting.saturating_sub(after.waiting));
 }
 
-/// Appends the row of the step that a machine has made, up to its stores: `seen` is the moment before it, and then this one.
+/// Appends the row of the step that a machine has executed, up to its stores: `seen` is the moment before it, and then that after
+/// it.
 pub fn begin_row<A: Allocator>(rows: &mut Rows, seen: &mut Moment, machine: &Machine<A>)
     requires { array_vec_len rows.old + 62 ≤ rows_room }
     ensures items { rows.new.items
@@ -160,7 +161,7 @@ pub fn begin_row<A: Allocator>(rows: &mut Rows, seen: &mut Moment, machine: &Mac
     *seen = now;
 }
 
-// Appends a byte's digits, and before them m and its address where it is not the next one; the next one is then that behind it.
+// Appends a byte's digits, and before them m and its address if that is not the next one; the next one is then the one after it.
 fn append_store(rows: &mut Rows, next: u32, address: u16, byte: u8) -> u32
     requires { array_vec_len rows.old + 7 ≤ rows_room }
     ensures stores { Appends rows.old.items next ((address, byte) ∷ []) rows.new.items result }
@@ -189,7 +190,7 @@ pub fn append_listed<A: Allocator>(rows: &mut Rows, addresses: &[u16], machine: 
     }
 }
 
-// Appends a byte that is another than it was.
+// Appends a byte that changed.
 fn append_other(rows: &mut Rows, next: u32, address: u16, old: u8, new: u8) -> u32
     requires { array_vec_len rows.old + 7 ≤ rows_room }
     ensures stores { Appends rows.old.items next (if old == new then [] else (address, new) ∷ []) rows.new.items result }
@@ -201,8 +202,8 @@ fn append_other(rows: &mut Rows, next: u32, address: u16, old: u8, new: u8) -> u
     append_store(rows, next, address, new)
 }
 
-/// Appends the bytes of RAM from `first` on up to `end` that are others than these, and answers at which address a byte behind
-/// them would need none, as `next` is it before them.
+/// Appends the bytes of RAM from `first` up to `end` that differ from these. Returns at which address a byte after them would need
+/// no address of its own; `next` is that before them.
 pub fn append_others<A: Allocator>(
     rows: &mut Rows,
     next: u32,

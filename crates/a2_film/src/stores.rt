@@ -15,7 +15,7 @@ use a2_opcode::{Mnemonic, row_of};
 use arrayvec::ArrayVec;
 use std::alloc::Allocator;
 
-// Whether instructions of this mnemonic store or push.
+// Returns whether instructions with this mnemonic store or push.
 #[tactic(auto, unfolding(a2_effect::specs::Effect::effect_of))]
 fn is_storing(mnemonic: Mnemonic) -> bool
     ensures { result ≡ false → (place : Place) (s : ℕ) → effect_stores (effect_of mnemonic) place s ≡ [] }
@@ -26,7 +26,7 @@ fn is_storing(mnemonic: Mnemonic) -> bool
     }
 }
 
-// Whether the instruction at PC stores, as far as its opcode tells.
+// Returns whether the instruction at PC stores, as far as its opcode shows.
 fn may_store<A: Allocator>(machine: &Machine<A>) -> bool
     ensures { result ≡ false → step_stores board_access (before_step machine.now.state.regs machine.now.state.bus) ≡ [] }
 {
@@ -39,7 +39,7 @@ fn may_store<A: Allocator>(machine: &Machine<A>) -> bool
     }
 }
 
-/// Where the instruction at PC stores, in the order of its writes.
+/// Returns where the instruction at PC stores, in the order of its writes.
 pub fn stores_at_pc<A: Allocator>(machine: &Machine<A>) -> ArrayVec<u16, 2>
     ensures { result.items ≡ step_stores board_access (before_step machine.now.state.regs machine.now.state.bus) }
 {

@@ -11,7 +11,7 @@ use a2_stream::{Output, WriteFault, put};
 use a2_text::hex_pair;
 use arrayvec::ArrayVec;
 
-/// The switches as a digit: 1 for text, 2 for mixed, 4 for page 2, 8 for high resolution.
+/// Returns the switches as a digit: 1 for text, 2 for mixed, 4 for page 2, 8 for high resolution.
 pub fn switch_digit(switches: Switches) -> u8
     ensures value { result ≡ change.switch_digit switches }
     ensures digit { result < 16 }
@@ -22,7 +22,7 @@ pub fn switch_digit(switches: Switches) -> u8
         + 8 * u8::from(switches.hires)
 }
 
-/// The capital hexadecimal digit of a number below 16.
+/// Returns the capital hexadecimal digit of a number below 16.
 pub fn hex_digit(number: u8) -> u8
     requires { number < 16 }
     ensures { result ≡ digit_of number }
@@ -34,7 +34,7 @@ pub fn hex_digit(number: u8) -> u8
     }
 }
 
-// A byte of a plain text: itself where it is printable and neither < nor \, else \ and its digits.
+// Returns a byte of a plain text: itself if it is printable and neither < nor \, and otherwise \ and its digits.
 fn plain_byte(byte: u8) -> ArrayVec<u8, 3>
     ensures { result.items ≡ spelt.plain_byte byte }
 {

@@ -1,6 +1,6 @@
 //! The page of a film, as `tests/film-page --write` writes it from `data/viewer.html`.
 
-/// What stands before the data.
+/// The page before the data of the film.
 pub const HEAD: &str = r##"<!DOCTYPE html>
 <html lang="en">
 <head>
@@ -93,61 +93,61 @@ html{--pb:110px}#nav{position:fixed;bottom:0;left:0;right:0;z-index:6;background
 <body>
 <header id=hd>
 <div class=t><h1 id=title>A run</h1><span id=pos>step <output id=no>0</output> of <span id=of></span> &#xB7; <output id=cy>0</output> cycles</span><a id=link class=noprint href="#step=0">link to this step</a></div>
-<div class=row id=bar><button id=back title="Key B">&#x2190; Breakpoint</button><button id=run title="Key b">Breakpoint &#x2192;</button><button id=over title="Key o: a call of a subroutine as one step">Over call &#x2192;</button><label>Step <input id=goto type=text inputmode=numeric size=8 title="Key /" aria-label="Go to step"></label><button id=gob>Go</button><label><span class=wide>Speed </span><select id=speed aria-label="Speed of playing"><option value=2>2 steps a second<option value=10 selected>10 a second<option value=60>60 a second<option value=1000>1000 a second<option value=20000>20 000 a second</select></label><button id=dark aria-pressed=false>Dark</button></div>
-<nav id=nav aria-label="Go through the run"><input type=range id=at min=0 value=0 aria-label="Step of the run"><div class=row><button id=home title=Home>Start</button><button id=b1 class=big title="Left arrow">&#x25C0; Back</button><button id=play title=Space>&#x25B6; Play</button><button id=f1 class=big title="Right arrow">Step &#x25B6;</button><button id=end title=End>End</button></div></nav>
+<div class=row id=bar><button id=back title="Key B">&#x2190; Breakpoint</button><button id=run title="Key b">Breakpoint &#x2192;</button><button id=over title="Key o: runs a called subroutine as one step">Over call &#x2192;</button><label>Step <input id=goto type=text inputmode=numeric size=8 title="Key /" aria-label="Go to step"></label><button id=gob>Go</button><label><span class=wide>Speed </span><select id=speed aria-label="Playback speed"><option value=2>2 steps per second<option value=10 selected>10 per second<option value=60>60 per second<option value=1000>1000 per second<option value=20000>20 000 per second</select></label><button id=dark aria-pressed=false>Dark</button></div>
+<nav id=nav aria-label="Move through the run"><input type=range id=at min=0 value=0 aria-label="Step of the run"><div class=row><button id=home title=Home>Start</button><button id=b1 class=big title="Left arrow">&#x25C0; Back</button><button id=play title=Space>&#x25B6; Play</button><button id=f1 class=big title="Right arrow">Step &#x25B6;</button><button id=end title=End>End</button></div></nav>
 </header>
 <main>
 <section id=says aria-label="What happens"><div class=row id=chap hidden><button id=c0 title="Key C">&#x25C0; Chapter</button><button id=c1 class=big title="Key c">Chapter &#x25B6;</button><select id=chs aria-label=Chapter></select></div><div id=say aria-live=polite></div></section>
-<section id=src tabindex=0 aria-label="Program. Arrows up and down go from instruction to instruction, Enter sets a breakpoint."><h2>Program <span class=key style="background:var(--now)">next</span> <span class=key style="background:var(--last)">just done</span> <span class=key style="background:rgba(var(--heat),.4)">how often</span></h2><table><thead><tr><th scope=col>done<th scope=col>line<th scope=col>address<th scope=col>bytes<th scope=col>source</thead><tbody id=lines></tbody></table></section>
+<section id=src tabindex=0 aria-label="Program. Up and Down move between instructions. Enter sets or removes a breakpoint."><h2>Program <span class=key style="background:var(--now)">next</span> <span class=key style="background:var(--last)">just executed</span> <span class=key style="background:rgba(var(--heat),.4)">how often</span></h2><table><thead><tr><th scope=col>times<th scope=col>line<th scope=col>address<th scope=col>bytes<th scope=col>source</thead><tbody id=lines></tbody></table></section>
 <section id=scrs><h2 id=scrh>Screen</h2><div id=tv><div><canvas id=scr width=560 height=384 role=img aria-label=Screen aria-describedby=scrt></canvas><canvas id=ov width=1120 height=768 aria-hidden=true></canvas></div></div><pre id=scrt class=sr></pre></section>
-<section id=cpu><h2>Processor <span class=noprint>(a click: who changed it?)</span></h2><div class=regs id=regs></div><div id=flags class=regs style="margin-top:6px"></div><p class=m id=stk></p></section>
-<section id=mems><h2 id=memh>Memory <span class=noprint>(a click: who wrote it? a second one goes there)</span></h2><div class=row id=memc><button id=pgm aria-label="Page before">&#x25C0;</button><select id=pg aria-label="Page of memory"></select><button id=pgp aria-label="Page behind">&#x25B6;</button><label><input id=fol type=checkbox> follow</label><label>Byte <input id=adr type=text size=7></label></div>
+<section id=cpu><h2>Processor <span class=noprint>(click to see what changed it)</span></h2><div class=regs id=regs></div><div id=flags class=regs style="margin-top:6px"></div><p class=m id=stk></p></section>
+<section id=mems><h2 id=memh>Memory <span class=noprint>(click to see what wrote it, again to go there)</span></h2><div class=row id=memc><button id=pgm aria-label="Previous page">&#x25C0;</button><select id=pg aria-label="Page of memory"></select><button id=pgp aria-label="Next page">&#x25B6;</button><label><input id=fol type=checkbox> follow</label><label>Byte <input id=adr type=text size=7></label></div>
 <table id=mem role=grid aria-labelledby=memh></table>
 <p id=whot role=status></p></section>
 </main>
-<footer><kbd>&#x2192;</kbd> step <kbd>&#x2190;</kbd> back, with <kbd>Shift</kbd> ten steps <kbd>Home</kbd> <kbd>End</kbd> <kbd>Space</kbd> play &#xB7; click a line for a breakpoint, or <kbd>x</kbd> for that of the next line; <kbd>b</kbd> on to a breakpoint <kbd>B</kbd> back to one <kbd>o</kbd> over a call <kbd>O</kbd> back over one <kbd>/</kbd> go to a step <kbd>c</kbd> <kbd>C</kbd> chapters &#xB7; click a byte, a cell of the screen or a register: <kbd>w</kbd> goes to the step that wrote it, <kbd>n</kbd> to the next that does, <kbd>r</kbd> returns<p>The data of this film are proved to be the run's. What draws them here is not proved, but tested.</footer>
+<footer><kbd>&#x2192;</kbd> step <kbd>&#x2190;</kbd> back, <kbd>Shift</kbd> ten steps at once <kbd>Home</kbd> start <kbd>End</kbd> end <kbd>Space</kbd> play or pause &#xB7; click a line to set or remove a breakpoint, or press <kbd>x</kbd> for the next line <kbd>b</kbd> to the next breakpoint <kbd>B</kbd> back to the previous one <kbd>o</kbd> over a call <kbd>O</kbd> back over one <kbd>/</kbd> go to a step <kbd>c</kbd> next chapter <kbd>C</kbd> previous chapter &#xB7; click a byte, a screen cell or a register, then press <kbd>w</kbd> to go to the step that wrote it, <kbd>n</kbd> to the next one that does, <kbd>r</kbd> to return<p>It is proved that the data of this film are those of the run. The code that shows them is not proved, but tested.</footer>
 <script type="text/plain" id="film">"##;
 
-/// What stands behind the data.
+/// The page after the data of the film.
 pub const TAIL: &str = r##"</script>
 <script>
 "use strict";
 const $=i=>document.getElementById(i),T_=document,chr=String.fromCharCode,{max,min,floor,ceil,log,abs}=Math,txt=(i,t)=>$(i).textContent=t,h=(v,n)=>v.toString(16).toUpperCase().padStart(n,0),hx=(v,n=2)=>"$"+h(v,n),X=t=>parseInt(t,16),RAM=49152;
 const esc=t=>t.replace(/[&<>"]/g,c=>"&#"+c.charCodeAt()+";");
-// ---- the film: first its head, then a row a step
+// ---- the film: first its head, then a row for each step
 let T=$("film").textContent;const F={source:[],list:[],names:[],ch:[]},start=new Uint8Array(RAM);
 const utf=t=>{const b=[];for(let i=0;i<t.length;i++)b.push(t[i]=="\\"?X(t.substr((i+=2)-1,2)):t.charCodeAt(i));const u=new Uint8Array(b);try{return new TextDecoder("utf-8",{fatal:true}).decode(u)}catch{return chr(...b)}};
 // the Monitor's services: address, name, and what each does
-const svc={},SAY={};for(const[a,n,w]of [["F800","PLOT","colours the block of row A and column Y"],
-["F819","HLINE","colours the blocks of row A from column Y to the column in $2C, or to Y where that is greater"],
-["F828","VLINE","colours the blocks of column Y from row A to the row in $2D, or to A where that is greater"],
+const svc={},SAY={};for(const[a,n,w]of [["F800","PLOT","colours the block in row A, column Y"],
+["F819","HLINE","colours the blocks in row A from column Y to the column in $2C, or only the one in column Y if that is greater"],
+["F828","VLINE","colours the blocks in column Y from row A to the row in $2D, or only the one in row A if that is greater"],
 ["F832","CLRSCR","makes all blocks black"],
-["F864","SETCOL","sets the colour of blocks, in all rows"],
-["F871","SCRN","gives in A the colour, 0 to 15, of the block of row A and column Y"],
-["FC22","VTAB","stores in $28 and $29 the address of the window's left edge in the cursor's row"],
-["FC42","CLREOP","makes the window blank from the cursor on: the rest of its row and the rows below"],
-["FC58","HOME","makes the window blank and puts the cursor at its top left"],
-["FC9C","CLREOL","makes the cursor's row blank from the cursor to the window's right edge"],
-["FCA8","WAIT","lets time pass"],
+["F864","SETCOL","sets the colour of blocks in all rows"],
+["F871","SCRN","sets A to the colour, 0 to 15, of the block in row A, column Y"],
+["FC22","VTAB","stores the address of the window's left edge in the cursor's row at $28 and $29"],
+["FC42","CLREOP","clears the window from the cursor on: the rest of the cursor's row and the rows below"],
+["FC58","HOME","clears the window and puts the cursor at its top left"],
+["FC9C","CLREOL","clears the cursor's row from the cursor to the window's right edge"],
+["FCA8","WAIT","waits and sets A to 0"],
 ["FD0C","RDKEY","asks the input hook for a key"],
-["FD1B","KEYIN","takes the first waiting key; A = that key with bit 7 set"],
-["FD6A","GETLN","puts the prompt of $33 and takes keys up to a return; the line is left at $0200, and X = its length without the return"],
+["FD1B","KEYIN","takes the first waiting key and sets A to that key with bit 7 set"],
+["FD6A","GETLN","puts the prompt stored in $33 and takes keys up to a return"],
 ["FD8E","CROUT","sends a return through the output hook"],
-["FDDA","PRBYTE","puts the two hexadecimal digits of A, as capitals with bit 7 set"],
-["FDE3","PRHEX","puts the hexadecimal digit of A's low four bits, as a capital with bit 7 set"],
+["FDDA","PRBYTE","puts A as two hexadecimal digits, with capital letters and bit 7 set"],
+["FDE3","PRHEX","puts the low four bits of A as one hexadecimal digit, with capital letters and bit 7 set"],
 ["FDED","COUT","sends the character in A through the output hook"],
 ["FDF0","COUT1","puts the byte in A at the cursor"],
-["FE80","SETINV","makes text inverse from here on"],
-["FE84","SETNORM","makes text normal from here on"]])SAY[svc[X(a)]=n]=esc(w);
+["FE80","SETINV","makes the text that follows inverse"],
+["FE84","SETNORM","makes the text that follows normal"]])SAY[svc[X(a)]=n]=esc(w);
 const D=c=>c<58?c-48:c<71&&c>64?c-55:-1;
-// m, an address and the bytes of RAM from there on; where they end
+// m, an address and the bytes of RAM from there on; returns the position after them
 function bytesAt(t,i,f){let a=X(t.substr(i+1,4));for(i+=5;D(t.charCodeAt(i))>=0;i+=2)f(a++,X(t.substr(i,2)));return i}
 let pos=0,S0;
 for(;;){let e=T.indexOf("\n",pos);const l=T.slice(pos,e),v=l.slice(2),w=v.split(" ");pos=e+1;
-switch(l[0]){case"F":if(l!="FILM 1")throw Error("no film");break;case"T":F.title=utf(v);break;case"G":F.free=v=="FREE";break;case"K":F.keys=v;break;case"B":F.from=+w[0];F.cy=+w[1];break;case"C":case"D":F.ch.push([l[0],+w[0],utf(w.slice(1).join(" "))]);break;case"S":F.source.push(utf(v));break;case"L":F.list.push([+w[0],X(w[1]),+w[2]]);break;case"N":F.names.push([utf(w[0]),X(w[1])]);break;case"M":for(let i=2;i<l.length;)i=bytesAt(l,i,(a,b)=>start[a]=b)}
-if(l[0]=="R"){S0=w.map(X);break}if(e<0)throw Error("no steps")}
+switch(l[0]){case"F":if(l!="FILM 1")throw Error("not a film");break;case"T":F.title=utf(v);break;case"G":F.free=v=="FREE";break;case"K":F.keys=v;break;case"B":F.from=+w[0];F.cy=+w[1];break;case"C":case"D":F.ch.push([l[0],+w[0],utf(w.slice(1).join(" "))]);break;case"S":F.source.push(utf(v));break;case"L":F.list.push([+w[0],X(w[1]),+w[2]]);break;case"N":F.names.push([utf(w[0]),X(w[1])]);break;case"M":for(let i=2;i<l.length;)i=bytesAt(l,i,(a,b)=>start[a]=b)}
+if(l[0]=="R"){S0=w.map(X);break}if(e<0)throw Error("a film without steps")}
 const B=F.from,last=T.lastIndexOf("\nSTOP ");F.stop=T.slice(last+6).trim();
-// a statement: its line, its address, its bytes in digits
+// a statement: its line, its address, its bytes as digits
 for(const q of F.list){let b="";for(let i=0;i<q[2];i++)b+=h(start[q[1]+i],2);q[2]=b}
 let N=0,total=0;
 for(let i=pos;i<=last;i++){const c=T.charCodeAt(i);if(c==10)N++;else if(c==109){let j=i+5;while(T.charCodeAt(j)<71&&T.charCodeAt(j)>47)j++;total+=(j-i-5)/2;i=j-1}}
@@ -191,24 +191,24 @@ function tell(r,l){r.setAttribute("aria-label","line "+l+": "+code[l-1]+(bps.has
 function mark(l){if(!byline[l]||!rows[l-1].onclick)return;const a=byline[l][1];bps.has(a)?bps.delete(a):bps.add(a);rows[l-1].classList.toggle("bp",bps.has(a));tell(rows[l-1],l);hash()}
 $("src").onkeydown=e=>{const d=e.key=="ArrowDown"?1:e.key=="ArrowUp"?-1:0,f=rows.indexOf(T_.activeElement)+1;
 if(d&&xs.length){let i=f?xs.indexOf(f)+d:max(0,xs.indexOf(LINE[PC[at]]));rows[xs[max(0,min(xs.length-1,i))]-1].focus()}else if(e.key=="Enter"&&f)mark(f);else return;e.preventDefault()};
-// ---- chapters, each at a step, or where its line first comes next
+// ---- chapters, each at a step, or where its line is first the next one
 const CH=F.ch.map(([c,n,t])=>({k:c=="C"?n-B:PC.findIndex(p=>LINE[p]==n),t}));for(const c of CH)if(c.k>N)c.k=-1;
 CH.sort((a,b)=>(a.k<0)-(b.k<0)||a.k-b.k);
 $("chap").hidden=!CH.length;$("chs").innerHTML=CH.map((c,i)=>"<option"+(c.k<0?" disabled":"")+">"+(i+1)+". "+esc(c.t)+(c.k<0?" (not in this film)":"")).join("");
 const chap=()=>CH.findLastIndex(c=>c.k>=0&&c.k<=at),walk=d=>{const c=d>0?CH.find(c=>c.k>at):CH.findLast(c=>c.k>=0&&c.k<at);if(c)go(c.k)};
 $("chs").onchange=e=>go(CH[e.target.selectedIndex].k);
 // ---- plain words
-// the causes of a stop: name, and what it means where PC stands
-const STOP={"RETURNED":"the last RTS was done",
-"CODE WRITE":"what stands there would store into the bytes of an instruction",
-"WINDOW":"the service there needs its window and cursor, or the block, on the screen",
-"KEYS":"the service there needs a key, and none is left (--keys)",
-"OFF STATEMENT":"no instruction of the source begins there",
-"ROM":"there is no RAM at $C000 and above",
-"OPCODE":"the byte there is no documented opcode",
-"BRK":"there is a BRK",
-"DECIMAL":"ADC and SBC do no decimal arithmetic: CLD clears D",
-"LIMIT":"the limit of steps is reached (--limit)"};
+// the causes of a stop: the name, and what it means
+const STOP={"RETURNED":"the program returned",
+"CODE WRITE":"the next instruction or service would overwrite code",
+"WINDOW":"the window, cursor or block position is invalid for the next service",
+"KEYS":"the next service needs a key, but none is waiting; give keys with --keys",
+"OFF STATEMENT":"no instruction of the source begins at this address",
+"ROM":"the next instruction is at or above $C000, where there is no RAM",
+"OPCODE":"the byte at this address is not a documented opcode",
+"BRK":"the next instruction is BRK",
+"DECIMAL":"ADC and SBC do not support decimal mode; clear D with CLD",
+"LIMIT":"the limit of steps was reached; raise it with --limit"};
 const lineOf=k=>{while(k>=0&&!(PC[k]in LINE))k--;return k<0?0:LINE[PC[k]]};
 const place=p=>svc[p]?svc[p]:p in LINE?"line "+LINE[p]:p==0xff69?"the end of the run":hx(p,4);
 const nm=a=>hx(a,4)+(NAME[a]&&a>9?" ("+NAME[a]+")":"");
@@ -221,22 +221,22 @@ let ea=-1,op=-1,stk=0;
 if(svc[p])o.push(SAY[svc[p]]||"");else{op=was(p);ea=area(p,op,u("y"),u("x"),was);
 const to=esc(place(PC[k]))+(NAME[PC[k]]&&!svc[PC[k]]?" ("+esc(NAME[PC[k]])+")":"");
 if((op&31)==16)o.push(PC[k]==p+2?"the branch is not taken":"the branch is taken, to "+to);
-else if(op==0x4c||op==0x6c)o.push("goes on at "+to);
-else if(op==0x20){o.push("calls "+to+"; "+hx(p+2,4)+", the way back, goes on the stack");stk=1}
-else if(op==0x60||op==0x40){o.push(PC[k]==0xff69?"returns; that is the end of the run":"returns to "+to);stk=1}
-else if(op==0x48||op==8){o.push("pushes "+(op==8?"the flags":"A, "+hx(u("a")))+" on the stack");stk=1}
+else if(op==0x4c||op==0x6c)o.push("jumps to "+to);
+else if(op==0x20){o.push("calls "+to+"; pushes "+hx(p+2,4)+", the address for the return");stk=1}
+else if(op==0x60||op==0x40){o.push(PC[k]==0xff69?"returns; this ends the run":"returns to "+to);stk=1}
+else if(op==0x48||op==8){o.push("pushes "+(op==8?"the flags":"A ("+hx(u("a"))+")")+" onto the stack");stk=1}
 else if(op==0x68||op==0x28){o.push("pulls "+hx(was(256+v("s")))+" from the stack");stk=1}
 if(ea>=0&&op>>5!=4)o.push("reads "+esc(nm(ea))+(ea<RAM?", which holds "+hx(was(ea)):""))}
 for(const r of"axys")if(u(r)!=v(r)&&!(r=="s"&&stk))o.push(r.toUpperCase()+" becomes "+hx(v(r)));
 const c=FIRST[k],e=FIRST[k+1];
 if(!stk){for(let i=c;i<min(e,c+3);i++)o.push(esc(nm(ADR[i]))+" becomes "+hx(NEW[i])+" (was "+hx(OLD[i])+")");
 if(e>c+3)o.push("and "+(e-c-3)+" more bytes change");
-if(ea>=0&&op>>5==4&&c==e)o.push("stores in "+esc(nm(ea))+(ea<RAM?", which held that byte already":""))}
+if(ea>=0&&op>>5==4&&c==e)o.push("stores to "+esc(nm(ea))+(ea<RAM?", which already held that byte":""))}
 const d=u("p")^v("p"),f=[..."NV..DIZC"].map((n,i)=>d>>7-i&1?n+(v("p")>>7-i&1?" set":" cleared"):"").filter(x=>x);
 if(f.length)o.push(f.join(", "));
-if(KEY[k]>KEY[k-1])o.push("took "+esc(keyname(KEY[k-1],KEY[k])));
+if(KEY[k]>KEY[k-1])o.push("takes "+esc(keyname(KEY[k-1],KEY[k])));
 if(SW[k]!=SW[k-1])o.push("the screen now shows "+scrname(SW[k]));
-return o.filter(x=>x).join("; ")||"nothing changes but PC"}
+return o.filter(x=>x).join("; ")||"only PC changes"}
 function keyname(i,j){let o=[];for(;i<j;i++){const v=X(F.keys.substr(2*i,2));o.push(v==13?"RETURN":v==32?"blank":v<32?"Ctrl-"+chr(v+64):chr(v))}return(o.length>1?"keys ":"key ")+o.join(" ")}
 const scrname=s=>(s&1?"text":(s&8?"hi-res":"lo-res")+(s&2?" with four rows of text":""))+", page "+(s&4?2:1);
 // ---- the screen
@@ -295,9 +295,9 @@ return 0}
 function stepOf(c){let a=0,b=N+1;while(b-a>1){const m=a+b>>1;FIRST[m]<=c?a=m:b=m}return a}
 const jump=k=>{if(k){ret=at;go(k)}},who=()=>jump(find(-1,find(-1)==at?at-1:at)),next=()=>jump(find(1,at+1));
 function whot(){const k=find(-1),b=k==at&&k?find(-1,at-1):0,n=find(1,at+1),l=(k,t)=>'<button data-go="'+k+'">'+t+" "+(B+k)+"</button>";
-$("whot").innerHTML=sel<0&&!selr?"":"<b>"+esc(what())+"</b> "+(selr?"":"holds "+hx(ram[sel]||0)+"; ")+(k?k==at?"this step changed it ("+esc(step(k))+"). ":"last changed by "+esc(step(k))+". ":"it is as at the start. ")+(k&&k!=at?l(k,"Go to step"):"")+(b?l(b,"The change before: step"):"")+(n?l(n,"Next change: step"):"")+(ret>=0&&ret!=at?l(ret,"Return to step"):"")}
+$("whot").innerHTML=sel<0&&!selr?"":"<b>"+esc(what())+"</b> "+(selr?"":"holds "+hx(ram[sel]||0)+"; ")+(k?k==at?"this step changed it ("+esc(step(k))+"). ":"last changed by "+esc(step(k))+". ":"unchanged since the start. ")+(k&&k!=at?l(k,"Go to step"):"")+(b?l(b,"Previous change: step"):"")+(n?l(n,"Next change: step"):"")+(ret>=0&&ret!=at?l(ret,"Return to step"):"")}
 $("whot").onclick=$("regs").onclick=e=>{const b=e.target.closest("button");if(!b)return;if(b.dataset.go)jump(+b.dataset.go);else{pick(0,b.dataset.r);T_.querySelector('[data-r="'+b.dataset.r+'"]').focus()}};
-// ---- all of the page
+// ---- the whole page
 let nowr,wasr,hot=[];
 for(const l of xs)hot.push([byline[l][1],rows[l-1].firstChild,-1]);
 function show(){
@@ -311,12 +311,12 @@ const t=nowr||wasr,s=$("src");
 if(t){const y=t.offsetTop;if(y<s.scrollTop+60||y>s.scrollTop+s.clientHeight-60)s.scrollTop=y-s.clientHeight/2}
 for(const q of hot){const v=hits[q[0]];if(v!=q[2]){q[2]=v;q[1].textContent=v||"";q[1].style.setProperty("--w",v?.06+.5*log(1+v)/MOST:0)}}
 const st=at?PC[at-1]:0,ci=chap(),c=CH[ci];$("chs").selectedIndex=ci;
-$("say").innerHTML=(c?'<p class="chap"><b>'+(ci+1)+" of "+CH.length+"</b> "+CH.filter(d=>d.k==c.k).map(d=>esc(d.t)).join("<br>")+"</p>":"")+"<p>"+(at?(svc[st]?"<code>"+svc[st]+"</code>, a service called from line "+wl:st in LINE?"Line "+wl+" <code>"+esc(code[wl-1])+"</code>":"Instruction at <code>"+hx(st,4)+"</code>")+": "+words(at)+".":B?"<b>The film begins here,</b> "+B+" steps into the run.":"<b>The start.</b> Nothing has been done yet.")+"</p>"+
+$("say").innerHTML=(c?'<p class="chap"><b>'+(ci+1)+" of "+CH.length+"</b> "+CH.filter(d=>d.k==c.k).map(d=>esc(d.t)).join("<br>")+"</p>":"")+"<p>"+(at?(svc[st]?"<code>"+svc[st]+"</code>, a service called from line "+wl:st in LINE?"Line "+wl+" <code>"+esc(code[wl-1])+"</code>":"Instruction at <code>"+hx(st,4)+"</code>")+": "+words(at)+".":B?"<b>The film begins here,</b> "+B+" steps into the run.":"<b>The start.</b> No step has been executed yet.")+"</p>"+
 (at==N?'<p class="stop'+(F.stop=="RETURNED"?" ok":"")+'">The run stops at '+(ln?"line "+ln+" <code>"+esc(code[ln-1])+"</code>":hx(PC[at],4)+(svc[PC[at]]?", the service <code>"+svc[PC[at]]+"</code>":""))+", "+F.stop+": "+esc(STOP[F.stop]||"")+".</p>":"<p>Next: "+(svc[PC[at]]?"the service <code>"+svc[PC[at]]+"</code>":ln?"line "+ln+" <code>"+esc(code[ln-1])+"</code>":hx(PC[at],4))+".</p>");
 let r="";
 for(const n of["A","X","Y","S","P","PC"]){const c=n=="PC"?PC:REG[n.toLowerCase()],v=c[at];r+='<button data-r="'+n+'"'+(at&&v!=c[at-1]&&n!="PC"?' class="ch"':"")+' aria-label="'+n+" "+h(v,2)+'"><small>'+n+("AXY".includes(n)?" = "+v:"")+"</small><b>"+h(v,n=="PC"?4:2)+"</b></button>"}
 $("regs").innerHTML=r;
-$("flags").innerHTML=[..."NVDIZC"].map((n,i)=>{const b=7-"NV..DIZC".indexOf(n),p=REG.p[at],c=at&&(p^REG.p[at-1])>>b&1;return"<span"+(c?' class="ch"':"")+' title="'+["negative","overflow","decimal","interrupts off","zero","carry"][i]+'"><small>'+n+"</small><b>"+(p>>b&1)+"</b></span>"}).join("");
+$("flags").innerHTML=[..."NVDIZC"].map((n,i)=>{const b=7-"NV..DIZC".indexOf(n),p=REG.p[at],c=at&&(p^REG.p[at-1])>>b&1;return"<span"+(c?' class="ch"':"")+' title="'+["negative","overflow","decimal","interrupts disabled","zero","carry"][i]+'"><small>'+n+"</small><b>"+(p>>b&1)+"</b></span>"}).join("");
 let k="",p=REG.s[at]+1;for(let i=p;i<256&&i<p+16;i++)k+=" "+h(ram[256+i],2);
 txt("stk","Stack"+(p<256?" from "+hx(256+p,4)+":"+k+(p<240?" \u2026":""):": empty")+(F.keys?" \u00B7 keys taken: "+KEY[at]+" of "+F.keys.length/2:""));
 mem();whot();draw();hash()}
@@ -330,7 +330,7 @@ function play(on){if(on&&at==N)seek(0);$("play").setAttribute("aria-pressed",!!o
 if(on){let prev=performance.now(),acc=0;const f=t=>{acc+=(t-prev)/1000*$("speed").value;prev=t;const n=floor(acc);if(n>0){acc-=n;
 let k=min(N,at+n);for(let i=at+1;i<k;i++)if(bps.has(PC[i])){k=i;break}
 go(k);if(at==N||bps.has(PC[at]))return play(0)}timer=requestAnimationFrame(f)};timer=requestAnimationFrame(f)}else hash()}
-function brk(d){if(!bps.size){txt("whot","");$("say").innerHTML="<p>No breakpoint is set: click a line of the program, or press x.</p>";return}
+function brk(d){if(!bps.size){txt("whot","");$("say").innerHTML="<p>No breakpoint is set; click a line of the program, or press x.</p>";return}
 let k=at+d;while(k>0&&k<N&&!bps.has(PC[k]))k+=d;go(k)}
 function over(d){const s=REG.s[at];let k=at+d;if(k>=0&&k<=N&&(d>0?ram[PC[at]]==0x20&&!svc[PC[at]]:REG.s[k]==(s-2&255)))while(k>0&&k<N&&(d>0?REG.s[k]!=s:REG.s[k]<s))k+=d;go(k)}
 $("at").max=N;$("at").oninput=e=>go(+e.target.value);

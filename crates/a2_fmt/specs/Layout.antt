@@ -6,19 +6,19 @@ use Rattle.std.specs.Str.{str_eq_ignore_ascii_case}
 use Rattle.a2_text.specs.Bytes.{is_blank, capital}
 use Rattle.a2_text.specs.Lines.{lines}
 use Rattle.a2_text.specs.Signs.{sign}
-use Rattle.a2_text.specs.Words.{behind_blanks}
+use Rattle.a2_text.specs.Words.{after_blanks}
 use Rattle.a2_fmt.specs.Operand.{comment_at, tidied}
 
 -- a byte that can be part of a word: neither a blank nor the `;` of a comment
-abbrev pub is_of_word : ℕ → Bool
-is_of_word c = not (is_blank c) && not (c == sign ";")
+abbrev pub is_word_part : ℕ → Bool
+is_word_part c = not (is_blank c) && not (c == sign ";")
 
 -- the word at the beginning of a text
 abbrev pub word : List ℕ → List ℕ
-word text = take (prefix_len is_of_word text) text
+word text = take (prefix_len is_word_part text) text
 
-abbrev pub behind_word : List ℕ → List ℕ
-behind_word text = drop (prefix_len is_of_word text) text
+abbrev pub after_word : List ℕ → List ℕ
+after_word text = drop (prefix_len is_word_part text) text
 
 -- a text without the white space at its end
 abbrev pub trimmed : List ℕ → List ℕ
@@ -55,17 +55,17 @@ with_comment line front comment = if length comment == 0 then front else before_
 
 -- the operation of a line
 abbrev pub operation : List ℕ → List ℕ
-operation line = word (behind_blanks (behind_word line))
+operation line = word (after_blanks (after_word line))
 
-abbrev pub behind_operation : List ℕ → List ℕ
-behind_operation line = behind_blanks (behind_word (behind_blanks (behind_word line)))
+abbrev pub after_operation : List ℕ → List ℕ
+after_operation line = after_blanks (after_word (after_blanks (after_word line)))
 
 -- a statement: its label, operation, operand and comment
 abbrev pub statement : List ℕ → List ℕ
 statement line =
     with_comment line
-    (with_operand (with_word (word line) (operation line)) (operation line) (trimmed (take (comment_at None (behind_operation line)) (behind_operation line))))
-    (trimmed (drop (comment_at None (behind_operation line)) (behind_operation line)))
+    (with_operand (with_word (word line) (operation line)) (operation line) (trimmed (take (comment_at None (after_operation line)) (after_operation line))))
+    (trimmed (drop (comment_at None (after_operation line)) (after_operation line)))
 
 -- a line of any length; a line that begins with `*` is a comment
 abbrev pub any : List ℕ → List ℕ

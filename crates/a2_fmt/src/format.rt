@@ -30,7 +30,7 @@ fn put_lines<A: Allocator + Copy>(
 }
 
 // Returns a text in columns.
-fn laid_out<A: Allocator + Copy>(alloc: A, text: &[u8]) -> Result<Vec<u8, A>, AllocError>
+fn formatted_text<A: Allocator + Copy>(alloc: A, text: &[u8]) -> Result<Vec<u8, A>, AllocError>
     ensures { IfOk result (λ out. out.items ≡ laid text.now) }
 {
     let lines = cut(alloc, text)?;
@@ -40,10 +40,10 @@ fn laid_out<A: Allocator + Copy>(alloc: A, text: &[u8]) -> Result<Vec<u8, A>, Al
 }
 
 // Whether formatting leaves a text unchanged.
-fn is_laid<A: Allocator + Copy>(alloc: A, text: &[u8]) -> Result<bool, AllocError>
+fn is_formatted<A: Allocator + Copy>(alloc: A, text: &[u8]) -> Result<bool, AllocError>
     ensures { IfOk result (λ is. IsTrue is ↔ laid text.now ≡ text.now) }
 {
-    let again = laid_out(alloc, text)?;
+    let again = formatted_text(alloc, text)?;
     Ok(again.as_slice() == text)
 }
 
@@ -72,8 +72,8 @@ fn settled<A: Allocator + Copy>(
     ensures same { IfOk result (λ found. IfSome found (λ _. IsSource (laid text.now) source.now × (laid (laid text.now) ≡ laid text.now))) }
     ensures none { IfOk result (λ found. IfNone found (IsSource (laid text.now) source.now → laid (laid text.now) ≡ laid text.now → ⊥)) }
 {
-    let out = laid_out(alloc, text)?;
-    let is = is_alike(alloc, source, out.as_slice())? && is_laid(alloc, out.as_slice())?;
+    let out = formatted_text(alloc, text)?;
+    let is = is_alike(alloc, source, out.as_slice())? && is_formatted(alloc, out.as_slice())?;
     Ok(if is { Some(out) } else { None })
 }
 

@@ -5,7 +5,7 @@ ghost use Rattle.a2_text.specs.Bytes.{capital as capital_of};
 ghost use Rattle.a2_fmt.specs.Layout as layout;
 
 use crate::operand::{comment_at, put_tidied};
-use a2_text::{behind_blanks, capital, front_len, is_blank};
+use a2_text::{after_blanks, capital, front_len, is_blank};
 use std::alloc::{AllocError, Allocator};
 
 // The columns where operations, operands and comments begin, counted from 0.
@@ -24,7 +24,7 @@ const BLANKS: &[u8] = b"                            ";
 // The word at the beginning of a text, up to a blank or a comment, and the text after it.
 fn parted(text: &[u8]) -> (&[u8], &[u8])
     ensures word { result.0.now ≡ layout.word text.now }
-    ensures rest { result.1.now ≡ layout.behind_word text.now }
+    ensures rest { result.1.now ≡ layout.after_word text.now }
 {
     text.split_at(front_len(text, |c| !is_blank(c) && c != b';'))
 }
@@ -61,9 +61,9 @@ fn put_capitals<A: Allocator>(row: &mut Vec<u8, A>, word: &[u8]) -> Result<(), A
     ensures { IfOk result (λ _. row.new.items ≡ row.old.items ++ map capital_of word.now) }
 {
     let mut rest = word;
-    while let Some((c, behind)) = rest.split_first() {
+    while let Some((c, following)) = rest.split_first() {
         row.push(capital(*c))?;
-        rest = behind;
+        rest = following;
     }
     Ok(())
 }
@@ -125,8 +125,8 @@ fn put_statement<A: Allocator>(row: &mut Vec<u8, A>, line: &[u8]) -> Result<(), 
     ensures { IfOk result (λ _. row.new.items ≡ layout.statement line.now) }
 {
     let (label, rest) = parted(line);
-    let (word, rest) = parted(behind_blanks(rest));
-    let there = behind_blanks(rest);
+    let (word, rest) = parted(after_blanks(rest));
+    let there = after_blanks(rest);
     let (operand, comment) = there.split_at(comment_at(there));
     row.extend_from_slice(label)?;
     put_word(row, word)?;
@@ -135,7 +135,7 @@ fn put_statement<A: Allocator>(row: &mut Vec<u8, A>, line: &[u8]) -> Result<(), 
 }
 
 // Formats a line whose result may have any length.
-fn put_any<A: Allocator>(row: &mut Vec<u8, A>, line: &[u8]) -> Result<(), AllocError>
+fn put_unlimited<A: Allocator>(row: &mut Vec<u8, A>, line: &[u8]) -> Result<(), AllocError>
     ensures { IfOk result (λ _. row.new.items ≡ layout.any line.now) }
 {
     row.clear();
@@ -169,7 +169,7 @@ pub(crate) fn put_line<A: Allocator>(
 ) -> Result<(), AllocError>
     ensures { IfOk result (λ _. text.new.items ≡ text.old.items ++ layout.row line.now) }
 {
-    put_any(row, line)?;
+    put_unlimited(row, line)?;
     put_fitting(text, row.as_slice(), line)?;
     text.extend_from_slice(b"\n")?;
     Ok(())

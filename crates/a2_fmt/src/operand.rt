@@ -8,8 +8,8 @@ use a2_text::{capital, is_blank};
 use std::alloc::{AllocError, Allocator};
 
 // The quote that is open after a byte, given the one that is open before it.
-fn quote_behind(quote: Option<u8>, c: u8) -> Option<u8>
-    ensures { result ≡ operand.quote_behind quote c }
+fn quote_after(quote: Option<u8>, c: u8) -> Option<u8>
+    ensures { result ≡ operand.quote_after quote c }
 {
     match quote {
         None => if c == b'\'' || c == b'"' {
@@ -29,28 +29,28 @@ pub(crate) fn comment_at(text: &[u8]) -> usize
 {
     let mut quote = None;
     let mut rest = text;
-    while let Some((c, behind)) = rest.split_first() {
+    while let Some((c, following)) = rest.split_first() {
         if quote.is_none() && *c == b';' {
             break;
         }
-        quote = quote_behind(quote, *c);
-        rest = behind;
+        quote = quote_after(quote, *c);
+        rest = following;
     }
     text.len() - rest.len()
 }
 
 // Whether a byte can be part of a name or a number.
-fn is_of_run(c: u8) -> bool
+fn is_run_byte(c: u8) -> bool
     ensures { result ≡ is_name_byte c }
 {
     matches!(c, b'0'..=b'9' | b'A'..=b'Z' | b'a'..=b'z' | b'_')
 }
 
 // Whether letters after a byte outside quotes become capitals.
-fn raises(indexed: bool, raised: bool, c: u8) -> bool
-    ensures { result ≡ operand.raises indexed raised c }
+fn makes_capital(indexed: bool, raised: bool, c: u8) -> bool
+    ensures { result ≡ operand.makes_capital indexed raised c }
 {
-    c == b'$' || indexed && c == b',' || raised && is_of_run(c)
+    c == b'$' || indexed && c == b',' || raised && is_run_byte(c)
 }
 
 /// Appends an operand without blanks outside quotes. Digits after `$` become capitals, and, if it is `indexed`, letters after a
@@ -65,16 +65,16 @@ pub(crate) fn put_tidied<A: Allocator>(
     let mut quote = None;
     let mut raised = false;
     let mut rest = text;
-    while let Some((c, behind)) = rest.split_first() {
+    while let Some((c, following)) = rest.split_first() {
         if quote.is_some() {
             row.push(*c)?;
             raised = false;
         } else if !is_blank(*c) {
             row.push(if raised { capital(*c) } else { *c })?;
-            raised = raises(indexed, raised, *c);
+            raised = makes_capital(indexed, raised, *c);
         }
-        quote = quote_behind(quote, *c);
-        rest = behind;
+        quote = quote_after(quote, *c);
+        rest = following;
     }
     Ok(())
 }

@@ -7,7 +7,7 @@ use Rattle.a2_page.specs.declared.Page.{Page}
 use Rattle.a2_page.specs.declared.Page.TheVariants.{One, Two}
 use Rattle.a2_page.specs.Cells.{Cell, cell_at}
 use Rattle.a2_page.specs.Grid.{IsGrid, byte_in, with_byte}
-use Rattle.a2_page.proofs.Finding.{StandsAt, cell_at-stands}
+use Rattle.a2_page.proofs.Finding.{IsCellAtAddress, cell_at-stands}
 use Rattle.a2_page.proofs.GridLemmas.{byte_in-with_byte, IsGrid-with_byte, same_or_not}
 use Rattle.a2_bus.proofs.Relating.{IsSimulation}
 use Rattle.a2_bus.specs.Devices.{device_byte, after_access}
@@ -56,7 +56,7 @@ written_back m a v h = go (cell_at a) refl
     go : (found : Option Cell) → cell_at a ≡ found → shows (written m a v found) a found ≡ v
     go None is = let e : (a == a) ≡ true = grind (arith, nat_tests) in ap (λ b. if b then v else m.plain a) e
     go (Some cell) is =
-        let stands : StandsAt a cell = cell_at-stands a cell is in
+        let stands : IsCellAtAddress a cell = cell_at-stands a cell is in
         ap (λ cells. byte_in cells cell.row cell.column) (grid-with_grid m cell.page _)
         ∙ byte_in-with_byte (grid m cell.page) cell.row cell.column v (page_of m h cell.page) stands.row_ok stands.column_ok
 

@@ -14,12 +14,12 @@ use Rattle.a2_cpu.specs.Stores.{IsNotIn, logged, with_empty_log, stores_of}
 use Rattle.a2_services.specs.World.{World}
 use Rattle.a2_services.specs.Services.{service_at}
 use Rattle.a2_machine.specs.declared.causes.Cause.TheVariants.{CodeWrite}
-use Rattle.a2_machine.specs.Meaning.{Decoded, cause_of_refusal, found_at_pc, next, return_address, stuck, world_at}
+use Rattle.a2_machine.specs.Meaning.{Decoded, cause_of_cpu_error, found_at_pc, next, return_address, stuck, world_at}
 use Rattle.a2_services.proofs.Counting.{returned_devices}
 use Rattle.a2_footprint.specs.InstructionReads.{pull_address}
 use Rattle.a2_footprint.specs.Reads.{AgreeOn}
-use Rattle.a2_footprint.specs.Runs.{known_behind}
-use Rattle.a2_footprint.specs.Uses.{Near, parts_behind}
+use Rattle.a2_footprint.specs.Runs.{bytes_known_after}
+use Rattle.a2_footprint.specs.Uses.{Near, parts_known_after}
 use Rattle.a2_footprint.specs.Calls.{GoesBack, CallPasses, CallsGoBack, CallPromisesHoldEverywhere, caller}
 use Rattle.a2_footprint.specs.Promises.{known_bytes, known_parts, selected, with_inputs}
 use Rattle.a2_footprint.proofs.Promising.{near, same-selected}
@@ -53,7 +53,7 @@ pub not_refused : (protected : List ℕ) (d : Decoded) (w : World) → d.row.mne
 unfolding refusal_of
 not_refused protected d w e = λ i.
     elim (refusal_of (e i) w.registers.flags) [
-      | Some why ↦ Some (cause_of_refusal why)
+      | Some why ↦ Some (cause_of_cpu_error why)
       | None ↦ if list_any (is_among protected) (stores_none d w e i) then Some CodeWrite else None
     ]
 
@@ -102,9 +102,9 @@ call_promises promise limit holds world meets =
       steps = passes.steps;
       within = passes.within;
       back = back;
-      passed = ap₂ (λ before behind. promise.test before behind) (sym before)
-          (sym (same-selected (parts_behind promise.code (known_parts promise) start passes.steps) (known_behind promise.code (known_bytes promise) start passes.steps)
-          promise.behind (world_at promise.code start passes.steps) (world_at promise.code world passes.steps) law.0 passes.shown))
+      passed = ap₂ (λ before following. promise.test before following) (sym before)
+          (sym (same-selected (parts_known_after promise.code (known_parts promise) start passes.steps) (bytes_known_after promise.code (known_bytes promise) start passes.steps)
+          promise.following (world_at promise.code start passes.steps) (world_at promise.code world passes.steps) law.0 passes.shown))
           ∙ passes.passed;
       rest = λ b stays. ap (λ m. ram_byte m b) back.memory ∙ law.1.rest b (subst (λ ns. IsNotIn b ns) (sym law.1.stores) stays);
     }

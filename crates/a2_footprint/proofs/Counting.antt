@@ -16,12 +16,12 @@ bound m s v b lt less =
 pub counted : StatesAreCounted
 counted [] [] is = record { number = 0; below = omega arith; is = refl }
 counted (values ∷ rest) (value ∷ state) is =
-    let behind : HasNumber rest state = counted rest state is.1 in
+    let following : HasNumber rest state = counted rest state is.1 in
     record {
-      number = behind.number * values + value;
-      below = bound behind.number (states_of rest) values value behind.below is.0;
-      is = ap₂ (λ first others. first ∷ others) (mod-mul-add behind.number values value is.0)
-          (ap (λ number. state_at rest number) (div-mul-add behind.number values value is.0) ∙ behind.is);
+      number = following.number * values + value;
+      below = bound following.number (states_of rest) values value following.below is.0;
+      is = ap₂ (λ first others. first ∷ others) (mod-mul-add following.number values value is.0)
+          (ap (λ number. state_at rest number) (div-mul-add following.number values value is.0) ∙ following.is);
     }
 counted [] (value ∷ state) bad = absurd bad
 counted (values ∷ rest) [] bad = absurd bad

@@ -12,21 +12,21 @@ use Rattle.a2_footprint.specs.declared.Part.{Part}
 use Rattle.a2_footprint.specs.declared.Part.TheVariants.{A as part_a}
 use Rattle.a2_footprint.specs.InstructionParts.{needs, sets_parts}
 use Rattle.a2_footprint.specs.Parts.{is_part}
-use Rattle.a2_footprint.specs.Runs.{RunReads, step_reads, step_stores, known_behind}
-use Rattle.a2_footprint.specs.Uses.{RunNeeds, step_needs, step_sets, parts_behind}
+use Rattle.a2_footprint.specs.Runs.{RunReads, step_reads, step_stores, bytes_known_after}
+use Rattle.a2_footprint.specs.Uses.{RunNeeds, step_needs, step_sets, parts_known_after}
 use Rattle.a2_footprint.specs.Promises.{Passes, IsRequired, known_bytes, known_parts, with_inputs}
 use Rattle.a2_footprint.specs.Doubling.{doubling_promise, DoublingHolds}
 
 module _ (memory : Memory) (stack : (ram_byte memory 0x1FE ≡ 0x68) × (ram_byte memory 0x1FF ≡ 0xFF)) (inputs : World) where
   reads : RunReads (doubling_promise memory).code (known_bytes (doubling_promise memory)) (with_inputs (doubling_promise memory) inputs) 3
-  unfolding computing world_at known_behind step_reads step_stores reads_of
+  unfolding computing world_at bytes_known_after step_reads step_stores reads_of
   reads zero _ = record { going = refl; found = λ other _. refl; reads = tt }
   reads (suc zero) _ = record { going = refl; found = λ other _. refl; reads = tt }
   reads (suc (suc zero)) _ = record { going = refl; found = λ other _. refl; reads = (refl, (refl, tt)) }
   reads (suc (suc (suc k))) lt = let bad : ⊥ = omega (arith, lt) in absurd bad
 
   looks : RunNeeds (doubling_promise memory).code (known_parts (doubling_promise memory)) (with_inputs (doubling_promise memory) inputs) 3
-  unfolding computing world_at parts_behind step_needs step_sets needs sets_parts
+  unfolding computing world_at parts_known_after step_needs step_sets needs sets_parts
   looks zero _ = (refl, tt)
   looks (suc zero) _ = (refl, tt)
   looks (suc (suc zero)) _ = tt
@@ -44,7 +44,7 @@ module _ (memory : Memory) (stack : (ram_byte memory 0x1FE ≡ 0x68) × (ram_byt
 
   passes : IsRequired (doubling_promise memory) (with_inputs (doubling_promise memory) inputs)
       → Passes (doubling_promise memory) 3 (with_inputs (doubling_promise memory) inputs)
-  unfolding computing world_at known_behind step_stores
+  unfolding computing world_at bytes_known_after step_stores
   passes required = record {
     steps = 3;
     within = omega arith;
@@ -57,7 +57,7 @@ module _ (memory : Memory) (stack : (ram_byte memory 0x1FE ≡ 0x68) × (ram_byt
     where
       Shown : ℕ → Type 0
       Shown a = (a < ram_end)
-          × IsTrue (known_behind (doubling_promise memory).code (known_bytes (doubling_promise memory)) (with_inputs (doubling_promise memory) inputs) 3 a)
+          × IsTrue (bytes_known_after (doubling_promise memory).code (known_bytes (doubling_promise memory)) (with_inputs (doubling_promise memory) inputs) 3 a)
 
       below : 0x06 < ram_end
       below = omega arith

@@ -9,7 +9,7 @@ use Rattle.a2_bus.specs.Access.{Access}
 use Rattle.a2_effect.specs.Registers.{Registers, StatusFlags, flags_of_byte, one_if}
 use Rattle.a2_effect.specs.Place.{Place, accumulator, address, pointer, place_of, base_address, zero_page_word, crosses_page}
 use Rattle.a2_effect.specs.Effect.{Effect, Replacement, sets, takes, replaces, stores, pushes, pulls, branches, jumps, calls, returns, returns_from_interrupt, breaks, effect_of}
-use Rattle.a2_effect.specs.Instruction.{State, with_pc, with_s, with_registers, after_read, after_write, stack_address, pushed, raised_s, pulled, after_pull, pulled_word, returned, returned_from_interrupt, called, jumped_through, operand_byte, memory_read, memory_put, replaced_registers, taken, replaced, stored, jumped, gone_pc, gone_to, called_place, after_effect, branch_cycles, next_address, performed}
+use Rattle.a2_effect.specs.Instruction.{State, with_pc, with_s, with_registers, after_read, after_write, stack_address, pushed, s_after_pull, pulled, after_pull, pulled_word, returned, returned_from_interrupt, called, jumped_through, operand_byte, memory_read, memory_put, replaced_registers, taken, replaced, stored, jumped, pc_at_target, branched_to, called_place, after_effect, branch_cycles, next_address, performed}
 use Rattle.a2_footprint.specs.InstructionReads.{reads_of, effect_reads, pointer_reads, jump_reads, place_reads, pull_address}
 use Rattle.a2_footprint.specs.Reads.{Knows}
 use Rattle.a2_footprint.specs.declared.Part.{Part}
@@ -100,7 +100,7 @@ module _ {M N : Type 0} (R : M → N → Type 0) (seen : ℕ → Bool) (left : A
   after_pull-near : (k : Part → Bool) (s : State M) (t : State N) → Near k R s t
       → Near k R (after_pull left s) (after_pull right t)
   after_pull-near k s t h =
-      s-near k (after_read left (0x100 + raised_s s.registers) s) (after_read right (0x100 + raised_s t.registers) t) _ _
+      s-near k (after_read left (0x100 + s_after_pull s.registers) s) (after_read right (0x100 + s_after_pull t.registers) t) _ _
       (read-near k s t _ _ h (ap (λ n. 0x100 + (n + 1) % 256) h.registers.s))
       (ap (λ n. (n + 1) % 256) h.registers.s)
 
@@ -236,18 +236,18 @@ module _ {M N : Type 0} (R : M → N → Type 0) (seen : ℕ → Bool) (left : A
   called_place-near k s t (address at) h = called-near k s t at at h refl
   called_place-near k s t place h = h
 
-  gone_to-near : (k : Part → Bool) (s : State M) (t : State N) (place : Place) → Near k R s t
-      → Near k R (gone_to place s) (gone_to place t)
-  gone_to-near k s t place h = pc-near k s t _ _ h (ap (λ n. gone_pc place n) h.registers.pc)
+  branched_to-near : (k : Part → Bool) (s : State M) (t : State N) (place : Place) → Near k R s t
+      → Near k R (branched_to place s) (branched_to place t)
+  branched_to-near k s t place h = pc-near k s t _ _ h (ap (λ n. pc_at_target place n) h.registers.pc)
 
   branched-near : (k : Part → Bool) (s : State M) (t : State N) (place : Place) (b c : Bool) → Near k R s t → b ≡ c
-      → Near k R (if b then gone_to place s else s) (if c then gone_to place t else t)
+      → Near k R (if b then branched_to place s else s) (if c then branched_to place t else t)
   branched-near k s t place b c h e =
-      let P : Bool → Type 0 = λ v. Near k R (if b then gone_to place s else s) (if v then gone_to place t else t) in
+      let P : Bool → Type 0 = λ v. Near k R (if b then branched_to place s else s) (if v then branched_to place t else t) in
       subst P e (same b)
     where
-      same : (b : Bool) → Near k R (if b then gone_to place s else s) (if b then gone_to place t else t)
-      same true = gone_to-near k s t place h
+      same : (b : Bool) → Near k R (if b then branched_to place s else s) (if b then branched_to place t else t)
+      same true = branched_to-near k s t place h
       same false = h
 
   effect-near : (k l : Part → Bool) (s : State M) (t : State N) (place : Place) (effect : Effect) → Near k R s t

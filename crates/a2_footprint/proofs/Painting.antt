@@ -12,7 +12,7 @@ use Rattle.a2_bus.specs.Memory.{Memory, ram_byte, with_ram, ram_end}
 use Rattle.a2_bus.proofs.Viewing.{cell_seen, cell_written}
 use Rattle.a2_effect.specs.Registers.{Registers}
 use Rattle.a2_services.specs.declared.rows.Service.TheVariants.{Setcol, Plot, Hline, Vline, Scrn}
-use Rattle.a2_services.specs.Blocks.{half_of, colour_of, painted, painted_across, painted_down, span_of}
+use Rattle.a2_services.specs.Blocks.{half_of, colour_of, painted, painted_across, painted_down, numbers_from_to}
 use Rattle.a2_services.specs.Services.{fits, block_fits, effect, with_a}
 use Rattle.a2_services.specs.World.{World}
 use Rattle.a2_services.proofs.Counting.{returned_devices}
@@ -69,7 +69,7 @@ numbers_below : (limit first count : ℕ) → first + count ≤ limit → AreBel
 numbers_below limit first zero h = tt
 numbers_below limit first (suc count) h = (omega (arith, h), numbers_below limit (suc first) count (omega (arith, h)))
 
-span_below : (limit first last : ℕ) → first < limit → last < limit → AreBelow limit (span_of first last)
+span_below : (limit first last : ℕ) → first < limit → last < limit → AreBelow limit (numbers_from_to first last)
 span_below limit first last f l = numbers_below limit first (last - first + 1) (omega (arith, f, l))
 
 -- one step for each number, which plots a block
@@ -155,10 +155,10 @@ hline_law parts known s t h fit looks reads =
     let below : last < 40 = below_tells last 40 (and-right (block_fits s.registers) (nat_lt last 40) fit) in (
       sym (ap₂ (λ block last. block && nat_lt last 40) (same_fit s.registers t.registers same) end) ∙ fit,
       left_alike known (blocks_across s.registers s.memory) s t _ _ _
-          (painting_across known s.memory t.memory s.registers.a (span_of s.registers.y last) h.memory same.row
+          (painting_across known s.memory t.memory s.registers.a (numbers_from_to s.registers.y last) h.memory same.row
           (span_below 40 s.registers.y last same.column below) reads.1.1.1)
-          (λ i. painted_across (same.a i) (span_of (same.y i) (end i)) t.memory),
-      (λ i. map (λ column. block_cell (same.a i) column) (span_of (same.y i) (end i))),
+          (λ i. painted_across (same.a i) (numbers_from_to (same.y i) (end i)) t.memory),
+      (λ i. map (λ column. block_cell (same.a i) column) (numbers_from_to (same.y i) (end i))),
     )
 
 pub vline_law : StoresAlike Vline
@@ -171,10 +171,10 @@ vline_law parts known s t h fit looks reads =
     let below : last < 48 = below_tells last 48 (and-right (block_fits s.registers) (nat_lt last 48) fit) in (
       sym (ap₂ (λ block last. block && nat_lt last 48) (same_fit s.registers t.registers same) end) ∙ fit,
       left_alike known (blocks_down s.registers s.memory) s t _ _ _
-          (painting_down known s.memory t.memory (span_of s.registers.a last) s.registers.y h.memory
+          (painting_down known s.memory t.memory (numbers_from_to s.registers.a last) s.registers.y h.memory
           (span_below 48 s.registers.a last same.row below) same.column reads.1.1.1)
-          (λ i. painted_down (span_of (same.a i) (end i)) (same.y i) t.memory),
-      (λ i. map (λ row. block_cell row (same.y i)) (span_of (same.a i) (end i))),
+          (λ i. painted_down (numbers_from_to (same.a i) (end i)) (same.y i) t.memory),
+      (λ i. map (λ row. block_cell row (same.y i)) (numbers_from_to (same.a i) (end i))),
     )
 
 -- SCRN stores nothing, and sets A to the colour of the block

@@ -14,8 +14,8 @@ use Rattle.a2_footprint.specs.Reads.{AgreeOn}
 use Rattle.a2_footprint.specs.declared.Part.{Part}
 use Rattle.a2_footprint.specs.declared.Part.TheVariants.{A as part_a, X as part_x, Y as part_y, N as part_n, V as part_v, D as part_d, I as part_i, Z as part_z, C as part_c}
 use Rattle.a2_footprint.specs.Parts.{held, MatchAt}
-use Rattle.a2_footprint.specs.Runs.{known_behind}
-use Rattle.a2_footprint.specs.Uses.{Near, parts_behind}
+use Rattle.a2_footprint.specs.Runs.{bytes_known_after}
+use Rattle.a2_footprint.specs.Uses.{Near, parts_known_after}
 use Rattle.a2_footprint.specs.Promises.{Selection, Promise, IsKnown, Passes, Holds, Meets, PromisesHoldEverywhere, known_bytes, known_parts, with_selected, selected, with_bytes_of, with_inputs, TriesDependOnInputs}
 use Rattle.a2_footprint.proofs.Agreeing.{Pages, pages-with_ram, devices-with_ram, written_back}
 use Rattle.a2_footprint.proofs.Running.{runs}
@@ -36,8 +36,8 @@ among-other n ns a other = let e : (n == a) ≡ false = grind (arith, nat_tests,
 among-here : (n : ℕ) (ns : List ℕ) (a : ℕ) → a ≡ n → is_among (n ∷ ns) a ≡ true
 among-here n ns a e = let here : (n == a) ≡ true = grind (arith, nat_tests, e) in ap (λ b. b || is_among ns a) here
 
-among-behind : (n : ℕ) (ns : List ℕ) (a : ℕ) → is_among ns a ≡ true → is_among (n ∷ ns) a ≡ true
-among-behind n ns a h = go (n == a)
+among-following : (n : ℕ) (ns : List ℕ) (a : ℕ) → is_among ns a ≡ true → is_among (n ∷ ns) a ≡ true
+among-following n ns a h = go (n == a)
   where
     go : (here : Bool) → here || is_among ns a ≡ true
     go true = refl
@@ -74,7 +74,7 @@ left m other (n ∷ ns) a among = go (same_or_not a n) (λ e. left m other ns a 
 same-map : (f g : ℕ → ℕ) (ns : List ℕ) → ((a : ℕ) → is_among ns a ≡ true → f a ≡ g a) → map f ns ≡ map g ns
 same-map f g [] same = refl
 same-map f g (n ∷ ns) same =
-    ap₂ (λ x xs. x ∷ xs) (same n (among-here n ns n refl)) (same-map f g ns (λ a among. same a (among-behind n ns a among)))
+    ap₂ (λ x xs. x ∷ xs) (same n (among-here n ns n refl)) (same-map f g ns (λ a among. same a (among-following n ns a among)))
 
 same-if : {X : Type 0} (b : Bool) (x y none : X) → (IsTrue b → x ≡ y) → (if b then x else none) ≡ (if b then y else none)
 same-if true x y none h = h refl
@@ -160,10 +160,10 @@ hold_everywhere promise limit holds world meets =
       steps = passes.steps;
       within = passes.within;
       ends = law.1.returns limit passes.within passes.home;
-      passed = ap₂ (λ before behind. promise.test before behind)
+      passed = ap₂ (λ before following. promise.test before following)
           (sym before)
-          (sym (same-selected (parts_behind promise.code (known_parts promise) start passes.steps) (known_behind promise.code (known_bytes promise) start passes.steps)
-          promise.behind (world_at promise.code start passes.steps) (world_at promise.code world passes.steps) law.0 passes.shown))
+          (sym (same-selected (parts_known_after promise.code (known_parts promise) start passes.steps) (bytes_known_after promise.code (known_bytes promise) start passes.steps)
+          promise.following (world_at promise.code start passes.steps) (world_at promise.code world passes.steps) law.0 passes.shown))
           ∙ passes.passed;
       rest = λ b stays. law.1.rest b (subst (λ ns. IsNotIn b ns) (sym law.1.stores) stays);
     }
@@ -174,7 +174,7 @@ same_bytes : (m one other : Memory) (ns : List ℕ) → ((a : ℕ) → is_among 
     → with_bytes_of one ns m ≡ with_bytes_of other ns m
 same_bytes m one other [] same = refl
 same_bytes m one other (n ∷ ns) same =
-    ap₂ (λ memory byte. with_ram memory n byte) (same_bytes m one other ns (λ a among. same a (among-behind n ns a among)))
+    ap₂ (λ memory byte. with_ram memory n byte) (same_bytes m one other ns (λ a among. same a (among-following n ns a among)))
     (same n (among-here n ns n refl))
 
 pub tries : TriesDependOnInputs

@@ -21,7 +21,7 @@ use Rattle.a2_services.specs.declared.rows.Service.{Service}
 use Rattle.a2_services.specs.declared.rows.Service.TheVariants.{Keyin, Getln}
 use Rattle.a2_machine.specs.declared.causes.Cause.{Cause}
 use Rattle.a2_machine.specs.declared.causes.Cause.TheVariants.{Returned, CodeWrite, Window, Keys}
-use Rattle.a2_machine.specs.Meaning.{Code, Decoded, found_at_pc, return_address, stuck, stuck_at, next, next_at, world_at, service_cause, instruction_cause, cause_of_refusal}
+use Rattle.a2_machine.specs.Meaning.{Code, Decoded, found_at_pc, return_address, stuck, stuck_at, next, next_at, world_at, service_cause, instruction_cause, cause_of_cpu_error}
 use Rattle.a2_machine.proofs.Computing.{returns_there}
 use Rattle.a2_footprint.specs.InstructionReads.{reads_of, effect_reads, pointer_reads}
 use Rattle.a2_footprint.specs.Reads.{AgreeOn, Knows, with_bytes}
@@ -29,8 +29,8 @@ use Rattle.a2_footprint.specs.declared.Part.{Part}
 use Rattle.a2_footprint.specs.declared.Part.TheVariants.{D as part_d}
 use Rattle.a2_footprint.specs.InstructionParts.{needs, mode_needs, sets_parts}
 use Rattle.a2_footprint.specs.Parts.{MatchAt, with_parts}
-use Rattle.a2_footprint.specs.Runs.{StepReads, RunReads, RunsAlike, found_reads, found_stores, step_reads, step_stores, stores_in, known_behind}
-use Rattle.a2_footprint.specs.Uses.{Near, RunNeeds, found_needs, found_sets, step_needs, step_sets, parts_behind}
+use Rattle.a2_footprint.specs.Runs.{StepReads, RunReads, RunsAlike, found_reads, found_stores, step_reads, step_stores, stores_in, bytes_known_after}
+use Rattle.a2_footprint.specs.Uses.{Near, RunNeeds, found_needs, found_sets, step_needs, step_sets, parts_known_after}
 use Rattle.a2_footprint.specs.Services.{is_keyless, service_needs, service_sets, service_reads, service_stores}
 use Rattle.a2_footprint.proofs.Agreeing.{Noted, noting, Pages, Same, logging}
 use Rattle.a2_footprint.proofs.Nearing.{performed-near, knows-append}
@@ -249,7 +249,7 @@ same_step protected k known (Ok d) s t h free looks reads =
     instruction d.row d.value k known s t h both.0 both.1 reads in
     let same : cause_at protected (Ok d) s ≡ cause_at protected (Ok d) t = λ i.
     elim (same_refusal d.row.mnemonic k s.registers t.registers both.0 h.registers i) [
-      | Some why ↦ Some (cause_of_refusal why)
+      | Some why ↦ Some (cause_of_cpu_error why)
       | None ↦ if list_any (is_among protected) (law.1 i) then Some CodeWrite else None
     ] in
     (sym same ∙ free, law.0, law.1)
@@ -352,33 +352,33 @@ keyless_at code known s t same reads = go (service_at t.registers.pc) refl
 
 -- the results of this many steps from two worlds
 record IsRun (code : Code) (k : Part → Bool) (known : ℕ → Bool) (s t : World) (n : ℕ) : Type 0 where
-  near : Near (parts_behind code k s n) (AgreeOn (known_behind code known s n)) (world_at code s n) (world_at code t n)
+  near : Near (parts_known_after code k s n) (AgreeOn (bytes_known_after code known s n)) (world_at code s n) (world_at code t n)
   going : (m : ℕ) → m < n → stuck code (world_at code t m) ≡ None
   stores : stores_in code s n ≡ stores_in code t n
   rest : (b : ℕ) → IsNotIn b (stores_in code t n) → ram_byte (world_at code t n).memory b ≡ ram_byte t.memory b
 
 run : (code : Code) (k : Part → Bool) (known : ℕ → Bool) (s t : World) (n : ℕ) → Near k (AgreeOn known) s t
     → RunReads code known s n → RunNeeds code k s n → IsRun code k known s t n
-unfolding parts_behind known_behind stores_in world_at
+unfolding parts_known_after bytes_known_after stores_in world_at
 run code k known s t zero h reads looks = record { near = h; going = λ m lt. let bad : ⊥ = omega (arith, lt) in absurd bad; stores = refl; rest = λ b _. refl }
 run code k known s t (suc n) h reads looks =
     let so_far : IsRun code k known s t n =
     run code k known s t n h (λ m lt. let below : m < suc n = omega (arith, lt) in reads m below) (λ m lt. let below : m < suc n = omega (arith, lt) in looks m below) in
     let last : n < suc n = omega arith in
-    let one : Step_alike code (parts_behind code k s n) (known_behind code known s n) (world_at code s n) (world_at code t n) =
-    step code (parts_behind code k s n) (known_behind code known s n) (world_at code s n) (world_at code t n) so_far.near (reads n last) (looks n last) in
+    let one : Step_alike code (parts_known_after code k s n) (bytes_known_after code known s n) (world_at code s n) (world_at code t n) =
+    step code (parts_known_after code k s n) (bytes_known_after code known s n) (world_at code s n) (world_at code t n) so_far.near (reads n last) (looks n last) in
     record {
       near = one.1;
       going = λ m lt. let below : m < n + 1 = omega (arith, lt) in below_more (λ j. stuck code (world_at code t j) ≡ None) n so_far.going one.0 m below;
       stores = ap₂ (λ ns ms. ns ++ ms) so_far.stores one.2;
       rest = λ b stays. step_keeps code (world_at code t n) b so_far.near.memory.right_pages one.0
-          (keyless_at code (known_behind code known s n) (world_at code s n) (world_at code t n) so_far.near.registers.pc (reads n last)) (not_in-append b (stores_in code t n) _ stays).1
+          (keyless_at code (bytes_known_after code known s n) (world_at code s n) (world_at code t n) so_far.near.registers.pc (reads n last)) (not_in-append b (stores_in code t n) _ stays).1
           ∙ so_far.rest b (not_in-append b (stores_in code t n) _ stays).0;
     }
 
 pub runs : (code : Code) (k : Part → Bool) (known : ℕ → Bool) (s t : World) (n : ℕ) → Near k (AgreeOn known) s t
     → RunReads code known s n → RunNeeds code k s n
-    → Near (parts_behind code k s n) (AgreeOn (known_behind code known s n)) (world_at code s n) (world_at code t n) × RunsAlike code s t n
+    → Near (parts_known_after code k s n) (AgreeOn (bytes_known_after code known s n)) (world_at code s n) (world_at code t n) × RunsAlike code s t n
 runs code k known s t n h reads looks =
     let same : IsRun code k known s t n = run code k known s t n h reads looks in (
       same.near,

@@ -19,7 +19,7 @@ use Rattle.a2_footprint.specs.declared.Part.{Part}
 use Rattle.a2_footprint.specs.declared.Part.TheVariants.{A as part_a}
 use Rattle.a2_footprint.specs.Reads.{AgreeOn, Knows, with_bytes}
 use Rattle.a2_footprint.specs.Parts.{held, is_part, MatchAt, with_parts}
-use Rattle.a2_footprint.specs.Services.{is_keyless, bytes_used, way_bytes, fit_bytes, service_needs, service_sets, service_reads, service_stores}
+use Rattle.a2_footprint.specs.Services.{is_keyless, bytes_used, continuation_bytes, fit_bytes, service_needs, service_sets, service_reads, service_stores}
 use Rattle.a2_footprint.specs.Serving.{ServicesDependOnUses, ServicesKeepTheRest}
 use Rattle.a2_footprint.specs.Uses.{Near}
 use Rattle.a2_footprint.proofs.Agreeing.{Pages}
@@ -108,7 +108,7 @@ module _ (parts : Part → Bool) (known : ℕ → Bool) (s t : World) (h : Near 
 
   registers_law : (service : Service) → is_keyless service ≡ true → fits service s.registers s.memory ≡ true
       → Knows parts (service_needs service) → Knows known (service_reads service s)
-      → Knows known (way_bytes service s.registers.s)
+      → Knows known (continuation_bytes service s.registers.s)
       → AgreeOn (with_bytes (service_stores service s) known) (effect service s).memory (effect service t).memory
       → MatchAt (with_parts (service_sets service) parts) (effect service s).registers (effect service t).registers
   unfolding effect
@@ -131,10 +131,10 @@ module _ (parts : Part → Bool) (known : ℕ → Bool) (s t : World) (h : Near 
   registers_law Keyin bad fitting looks shown ways agree = absurd (true≢false (sym bad))
   registers_law service keyless fitting looks shown ways agree = unset _ _ _ refl refl agree ways
 
-ways_of : (service : Service) (known : ℕ → Bool) (w : World) → Knows known (service_reads service w) → Knows known (way_bytes service w.registers.s)
+ways_of : (service : Service) (known : ℕ → Bool) (w : World) → Knows known (service_reads service w) → Knows known (continuation_bytes service w.registers.s)
 unfolding service_reads
 ways_of service known w shown =
-    let ways : List ℕ = way_bytes service w.registers.s in
+    let ways : List ℕ = continuation_bytes service w.registers.s in
     let fitting : List ℕ = fit_bytes (service_row service).needs in
     (knows-append known ways fitting (knows-append known (ways ++ fitting) (bytes_used service w.registers w.memory) shown).0).0
 

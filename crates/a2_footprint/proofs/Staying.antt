@@ -11,7 +11,7 @@ use Rattle.a2_bus.specs.Memory.{memory_access}
 use Rattle.a2_effect.specs.Registers.{Registers, StatusFlags}
 use Rattle.a2_effect.specs.Place.{Place, accumulator, address, pointer, place_of}
 use Rattle.a2_effect.specs.Effect.{Effect, Replacement, sets, takes, replaces, stores, pushes, pulls, branches, jumps, calls, returns, returns_from_interrupt, breaks, effect_of}
-use Rattle.a2_effect.specs.Instruction.{after_effect, called, called_place, gone_to, jumped, jumped_through, next_address, operand_byte, performed, pulled, replaced_registers, returned, returned_from_interrupt, with_pc}
+use Rattle.a2_effect.specs.Instruction.{after_effect, called, called_place, branched_to, jumped, jumped_through, next_address, operand_byte, performed, pulled, replaced_registers, returned, returned_from_interrupt, with_pc}
 use Rattle.a2_services.specs.World.{World}
 use Rattle.a2_services.specs.declared.rows.Service.{Service}
 use Rattle.a2_services.specs.Services.{fits, service_at}
@@ -22,9 +22,9 @@ use Rattle.a2_footprint.specs.declared.Part.TheVariants.{A as part_a, X as part_
 use Rattle.a2_footprint.specs.InstructionParts.{needs, mode_needs, sets_parts}
 use Rattle.a2_footprint.specs.Reads.{AgreeOn, Knows}
 use Rattle.a2_footprint.specs.Parts.{held, is_part}
-use Rattle.a2_footprint.specs.Runs.{RunReads, StepReads, known_behind}
+use Rattle.a2_footprint.specs.Runs.{RunReads, StepReads, bytes_known_after}
 use Rattle.a2_footprint.specs.Services.{is_keyless}
-use Rattle.a2_footprint.specs.Uses.{Near, RunNeeds, found_needs, found_sets, step_needs, step_sets, parts_behind}
+use Rattle.a2_footprint.specs.Uses.{Near, RunNeeds, found_needs, found_sets, step_needs, step_sets, parts_known_after}
 use Rattle.a2_footprint.specs.Stays.{is_register, UnknownRegistersStay}
 use Rattle.a2_footprint.proofs.Nearing.{knows-append}
 use Rattle.a2_footprint.proofs.Running.{done_at, found_there, keyless_there, needs_at, next_is, next_served, not_home, not_stuck, runs, sets_at, step as one_step, stuck_served}
@@ -103,8 +103,8 @@ call part (address at) w = moved part w.registers (called memory_access at w).re
 call part place w = refl
 
 branch : (part : Part) (place : Place) (w : World) (is : Bool)
-    → held part (let v : World = if is then gone_to place w else w in v).registers ≡ held part w.registers
-branch part place w true = moved part w.registers w.registers.s (let v : World = gone_to place w in v).registers.pc
+    → held part (let v : World = if is then branched_to place w else w in v).registers ≡ held part w.registers
+branch part place w true = moved part w.registers w.registers.s (let v : World = branched_to place w in v).registers.pc
 branch part place w false = refl
 
 stays : (part : Part) (place : Place) (effect : Effect) (w : World) → is_register part ≡ true → IsFree part place
@@ -193,16 +193,16 @@ by_step code k known s t h reads looks part is unset unknown = go (service_at s.
         (sym (ap (λ ps. list_any (is_part part) ps) (sets_at code s (Some service) at)) ∙ unset)
 
 pub staying : UnknownRegistersStay
-unfolding parts_behind world_at
+unfolding parts_known_after world_at
 staying code parts bytes s t zero h reads looks part is unknown = refl
 staying code parts bytes s t (suc n) h reads looks part is unknown =
     let last : n < suc n = omega arith in
     let before : RunReads code bytes s n = λ k lt. (let below : k < suc n = omega (arith, lt) in reads k below) in
     let needed : RunNeeds code parts s n = λ k lt. (let below : k < suc n = omega (arith, lt) in looks k below) in
-    let near : Near (parts_behind code parts s n) (AgreeOn (known_behind code bytes s n)) (world_at code s n) (world_at code t n) =
+    let near : Near (parts_known_after code parts s n) (AgreeOn (bytes_known_after code bytes s n)) (world_at code s n) (world_at code t n) =
     (runs code parts bytes s t n h before needed).0 in
-    let both : (list_any (is_part part) (step_sets code (world_at code s n)) ≡ false) × (parts_behind code parts s n part ≡ false) =
-    neither (list_any (is_part part) (step_sets code (world_at code s n))) (parts_behind code parts s n part) unknown in
-    by_step code (parts_behind code parts s n) (known_behind code bytes s n) (world_at code s n) (world_at code t n) near (reads n last) (looks n last)
+    let both : (list_any (is_part part) (step_sets code (world_at code s n)) ≡ false) × (parts_known_after code parts s n part ≡ false) =
+    neither (list_any (is_part part) (step_sets code (world_at code s n))) (parts_known_after code parts s n part) unknown in
+    by_step code (parts_known_after code parts s n) (bytes_known_after code bytes s n) (world_at code s n) (world_at code t n) near (reads n last) (looks n last)
     part is both.0 both.1
-    ∙ staying code parts bytes s t n h before needed part is (is_unknown (parts_behind code parts s n part) both.1)
+    ∙ staying code parts bytes s t n h before needed part is (is_unknown (parts_known_after code parts s n part) both.1)

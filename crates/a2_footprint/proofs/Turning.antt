@@ -21,7 +21,7 @@ use Rattle.a2_services.specs.World.{World}
 use Rattle.a2_machine.specs.ByteRun.{bytes, decoded_or_cause}
 use Rattle.a2_machine.specs.declared.causes.Cause.{Cause}
 use Rattle.a2_machine.specs.declared.causes.Cause.TheVariants.{CodeWrite}
-use Rattle.a2_machine.specs.Meaning.{Decoded, cause_of_refusal, found_at_pc, next, return_address, stuck, world_at}
+use Rattle.a2_machine.specs.Meaning.{Decoded, cause_of_cpu_error, found_at_pc, next, return_address, stuck, world_at}
 use Rattle.a2_footprint.specs.InstructionParts.{mode_needs, needs}
 use Rattle.a2_footprint.specs.InstructionReads.{pointer_reads, reads_of}
 use Rattle.a2_footprint.specs.declared.Part.{Part}
@@ -29,24 +29,24 @@ use Rattle.a2_footprint.specs.declared.Part.TheVariants.{X as part_x}
 use Rattle.a2_footprint.specs.Fetches.{addresses_from, fetch_reads, operand_addresses}
 use Rattle.a2_footprint.specs.Parts.{MatchAt}
 use Rattle.a2_footprint.specs.Reads.{AgreeOn, Knows}
-use Rattle.a2_footprint.specs.Runs.{StepReads, found_reads, known_behind}
+use Rattle.a2_footprint.specs.Runs.{StepReads, found_reads, bytes_known_after}
 use Rattle.a2_footprint.specs.Services.{is_keyless}
-use Rattle.a2_footprint.specs.Turned.{in_stack, turned_memory, FoundOffStack, IsTurned, RunsOffStackAlike, RunsTurnAlike, StepIsOffStack, operand_uses}
-use Rattle.a2_footprint.specs.Uses.{Near, found_needs, parts_behind, step_needs}
+use Rattle.a2_footprint.specs.RotatedStack.{in_stack, rotated_memory, FoundOffStack, IsRotated, RunsOffStackAlike, RunsAlikeOnRotatedStack, StepIsOffStack, operand_uses}
+use Rattle.a2_footprint.specs.Uses.{Near, found_needs, parts_known_after, step_needs}
 use Rattle.a2_footprint.proofs.Agreeing.{agreeing}
 use Rattle.a2_footprint.proofs.Fetching.{same_fetched}
 use Rattle.a2_footprint.proofs.Nearing.{knows-append, place-near}
 use Rattle.a2_footprint.proofs.Running.{calm_cause, cause_at, done_at, found_there, needs_at, next_is, next_served, not_home, not_stuck, reads_at, runs, some≢none, stuck_is, stuck_served}
-use Rattle.a2_footprint.proofs.TurnedInstructions.{off_first, pc-same, performed-turned}
-use Rattle.a2_footprint.proofs.TurnedMemory.{same_beside}
-use Rattle.a2_footprint.proofs.TurnedServices.{served_turned}
+use Rattle.a2_footprint.proofs.RotatedInstructions.{off_first, pc-same, performed-turned}
+use Rattle.a2_footprint.proofs.RotatedMemory.{same_beside}
+use Rattle.a2_footprint.proofs.RotatedServices.{served_turned}
 
 -- The instruction at PC
 
 abbrev is_beside : ℕ → Bool
 is_beside a = not (in_stack a)
 
-same_peek : (turn : ℕ) (m n : Memory) (a : ℕ) → n ≡ turned_memory turn m → IsTrue (is_beside a) → peek n a ≡ peek m a
+same_peek : (turn : ℕ) (m n : Memory) (a : ℕ) → n ≡ rotated_memory turn m → IsTrue (is_beside a) → peek n a ≡ peek m a
 same_peek turn m n a h beside =
     let off : in_stack a ≡ false = grind (arith, nat_tests, beside) in
     ap (λ k. peek k a) h ∙ ap (λ b. let o : Option ℕ = if nat_lt a ram_end then Some b else None in o) (same_beside turn m a off)
@@ -92,7 +92,7 @@ beside_fetch m pc off = (beside_pc pc (off_first (pc % 65536) _ off).0, operand 
     operand None = tt
     operand (Some b) = row (row_of b)
 
-same_found : (turn : ℕ) (s t : World) → IsTurned turn s t → list_any in_stack (addresses_from s.registers.pc 3) ≡ false
+same_found : (turn : ℕ) (s t : World) → IsRotated turn s t → list_any in_stack (addresses_from s.registers.pc 3) ≡ false
     → found_at_pc (bytes None) t ≡ found_at_pc (bytes None) s
 unfolding bytes
 same_found turn s t h off =
@@ -107,15 +107,15 @@ none_among [] = refl
 none_among (n ∷ ns) = none_among ns
 
 -- the results of the same instruction
-found_turned : (turn : ℕ) (found : Result Decoded Cause) (s t : World) → IsTurned turn s t → FoundOffStack found s
-    → cause_at [] found s ≡ None → (cause_at [] found t ≡ None) × IsTurned turn (done_at found s) (done_at found t)
+found_turned : (turn : ℕ) (found : Result Decoded Cause) (s t : World) → IsRotated turn s t → FoundOffStack found s
+    → cause_at [] found s ≡ None → (cause_at [] found t ≡ None) × IsRotated turn (done_at found s) (done_at found t)
 found_turned turn (Err cause) s t h off free = absurd (some≢none cause free)
 found_turned turn (Ok d) s t h off free =
     let none : list_any (is_among []) (stores_of memory_access d.row d.value s) ≡ list_any (is_among []) (stores_of memory_access d.row d.value t) =
     none_among (stores_of memory_access d.row d.value s) ∙ sym (none_among (stores_of memory_access d.row d.value t)) in
     let same : cause_at [] (Ok d) s ≡ cause_at [] (Ok d) t = λ i.
     elim (ap (λ r. refusal_of d.row.mnemonic r.flags) h.registers i) [
-      | Some why ↦ Some (cause_of_refusal why)
+      | Some why ↦ Some (cause_of_cpu_error why)
       | None ↦ if none i then Some CodeWrite else None
     ] in
     (sym same ∙ free, performed-turned turn d s t h off)
@@ -124,14 +124,14 @@ unguarded : (bytes None).protected ≡ []
 unfolding bytes
 unguarded = refl
 
-both_are : (turn : ℕ) {v w x y : World} → v ≡ x → w ≡ y → IsTurned turn v w → IsTurned turn x y
-both_are turn {v} {w} {x} {y} left right h = subst (λ z. IsTurned turn x z) right (subst (λ z. IsTurned turn z w) left h)
+both_are : (turn : ℕ) {v w x y : World} → v ≡ x → w ≡ y → IsRotated turn v w → IsRotated turn x y
+both_are turn {v} {w} {x} {y} left right h = subst (λ z. IsRotated turn x z) right (subst (λ z. IsRotated turn z w) left h)
 
 -- the effect of a step from a rotated world
 abbrev StepTurns : ℕ → World → World → Type 0
-StepTurns turn s t = (stuck (bytes None) t ≡ None) × IsTurned turn (next (bytes None) s) (next (bytes None) t)
+StepTurns turn s t = (stuck (bytes None) t ≡ None) × IsRotated turn (next (bytes None) s) (next (bytes None) t)
 
-module _ (turn : ℕ) (s t : World) (h : IsTurned turn s t) (going : stuck (bytes None) s ≡ None) where
+module _ (turn : ℕ) (s t : World) (h : IsRotated turn s t) (going : stuck (bytes None) s ≡ None) where
   away : (s.registers.pc == return_address) ≡ false
   away = not_home (bytes None) s going
 
@@ -147,7 +147,7 @@ module _ (turn : ℕ) (s t : World) (h : IsTurned turn s t) (going : stuck (byte
       let found : found_at_pc (bytes None) t ≡ found_at_pc (bytes None) s = same_found turn s t h code in
       let cause : cause_at [] (found_at_pc (bytes None) s) s ≡ None =
       ap (λ p. cause_at p (found_at_pc (bytes None) s) s) (sym unguarded) ∙ sym (stuck_is (bytes None) s _ away free refl) ∙ going in
-      let law : (cause_at [] (found_at_pc (bytes None) s) t ≡ None) × IsTurned turn (done_at (found_at_pc (bytes None) s) s) (done_at (found_at_pc (bytes None) s) t) =
+      let law : (cause_at [] (found_at_pc (bytes None) s) t ≡ None) × IsRotated turn (done_at (found_at_pc (bytes None) s) s) (done_at (found_at_pc (bytes None) s) t) =
       found_turned turn (found_at_pc (bytes None) s) s t h off cause in (
         stuck_is (bytes None) t _ away_too (there None free) found ∙ ap (λ p. cause_at p (found_at_pc (bytes None) s) t) unguarded ∙ law.0,
         both_are turn (sym (next_is (bytes None) s _ free refl)) (sym (next_is (bytes None) t _ (there None free) found)) law.1,
@@ -157,7 +157,7 @@ module _ (turn : ℕ) (s t : World) (h : IsTurned turn s t) (going : stuck (byte
   by_service service is keyless =
       let calm : (list_any (reach service) (bytes None).protected ≡ false) × (fits service s.registers s.memory ≡ true) =
       not_stuck (bytes None).protected service s (sym (stuck_served (bytes None) s service away is) ∙ going) in
-      let law : (fits service t.registers t.memory ≡ fits service s.registers s.memory) × IsTurned turn (served service s) (served service t) =
+      let law : (fits service t.registers t.memory ≡ fits service s.registers s.memory) × IsRotated turn (served service s) (served service t) =
       served_turned service turn s t h keyless in (
         stuck_served (bytes None) t service away_too (there (Some service) is)
             ∙ calm_cause (bytes None).protected service t keyless calm.0 (law.0 ∙ calm.1),
@@ -171,7 +171,7 @@ OffStackBy world o =
     ((list_any in_stack (addresses_from world.registers.pc 3) ≡ false) × FoundOffStack (found_at_pc (bytes None) world) world)
     (λ service. is_keyless service ≡ true)
 
-step_turned : (turn : ℕ) (s t : World) → IsTurned turn s t → stuck (bytes None) s ≡ None → StepIsOffStack s → StepTurns turn s t
+step_turned : (turn : ℕ) (s t : World) → IsRotated turn s t → stuck (bytes None) s ≡ None → StepIsOffStack s → StepTurns turn s t
 step_turned turn s t h going off = go (service_at s.registers.pc) refl off
   where
     go : (o : Option Service) → service_at s.registers.pc ≡ o → OffStackBy s o → StepTurns turn s t
@@ -180,12 +180,12 @@ step_turned turn s t h going off = go (service_at s.registers.pc) refl off
 
 -- A run
 
-pub turning : RunsTurnAlike
+pub turning : RunsAlikeOnRotatedStack
 unfolding world_at
 turning turn s t zero h going off = ((λ k lt. let bad : ⊥ = omega (arith, lt) in absurd bad), h)
 turning turn s t (suc n) h going off =
     let so_far : ((k : ℕ) → k < n → stuck (bytes None) (world_at (bytes None) t k) ≡ None)
-    × IsTurned turn (world_at (bytes None) s n) (world_at (bytes None) t n) =
+    × IsRotated turn (world_at (bytes None) s n) (world_at (bytes None) t n) =
     turning turn s t n h (λ k lt. let below : k < suc n = omega (arith, lt) in going k below) (λ k lt. let below : k < suc n = omega (arith, lt) in off k below) in
     let last : n < suc n = omega arith in
     let one : StepTurns turn (world_at (bytes None) s n) (world_at (bytes None) t n) =
@@ -235,7 +235,7 @@ step_off_stack k known s t h reads looks off =
 
 pub staying_off : RunsOffStackAlike
 staying_off parts known s t n h reads looks off k lt =
-    let near : Near (parts_behind (bytes None) parts s k) (AgreeOn (known_behind (bytes None) known s k)) (world_at (bytes None) s k) (world_at (bytes None) t k) =
+    let near : Near (parts_known_after (bytes None) parts s k) (AgreeOn (bytes_known_after (bytes None) known s k)) (world_at (bytes None) s k) (world_at (bytes None) t k) =
     (runs (bytes None) parts known s t k h (λ j below. let under : j < n = omega (arith, below, lt) in reads j under)
     (λ j below. let under : j < n = omega (arith, below, lt) in looks j under)).0 in
-    step_off_stack (parts_behind (bytes None) parts s k) (known_behind (bytes None) known s k) (world_at (bytes None) s k) (world_at (bytes None) t k) near (reads k lt) (looks k lt) (off k lt)
+    step_off_stack (parts_known_after (bytes None) parts s k) (bytes_known_after (bytes None) known s k) (world_at (bytes None) s k) (world_at (bytes None) t k) near (reads k lt) (looks k lt) (off k lt)

@@ -11,7 +11,7 @@ use Rattle.a2_footprint.specs.declared.Part.{Part}
 use Rattle.a2_footprint.specs.declared.Part.TheVariants.{A as part_a, X as part_x, Y as part_y, N as part_n, V as part_v, D as part_d, I as part_i, Z as part_z, C as part_c}
 use Rattle.a2_footprint.specs.Parts.{held, is_part, MatchAt, with_parts}
 use Rattle.a2_footprint.specs.Runs.{InstructionsDependOnReads, StepsDependOnReads, RunsDependOnReads}
-use Rattle.a2_footprint.specs.Uses.{Near, step_sets, parts_behind}
+use Rattle.a2_footprint.specs.Uses.{Near, step_sets, parts_known_after}
 use Rattle.a2_footprint.proofs.Agreeing.{among_or}
 use Rattle.a2_footprint.proofs.Running.{instruction, step, runs}
 
@@ -33,10 +33,10 @@ knows k (p ∷ ps) all = (all p, knows k ps all)
 with_parts-all : (more : List Part) (k : Part → Bool) → All k → All (with_parts more k)
 with_parts-all more k all p = among_or (list_any (is_part p) more) (k p) (all p)
 
-behind-all : (code : Code) (k : Part → Bool) (s : World) (n : ℕ) → All k → All (parts_behind code k s n)
-unfolding parts_behind
-behind-all code k s zero all = all
-behind-all code k s (suc n) all = with_parts-all (step_sets code (world_at code s n)) (parts_behind code k s n) (behind-all code k s n all)
+following-all : (code : Code) (k : Part → Bool) (s : World) (n : ℕ) → All k → All (parts_known_after code k s n)
+unfolding parts_known_after
+following-all code k s zero all = all
+following-all code k s (suc n) all = with_parts-all (step_sets code (world_at code s n)) (parts_known_after code k s n) (following-all code k s n all)
 
 near : (known : ℕ → Bool) (s t : World) → Alike (AgreeOn known) s t → Near every (AgreeOn known) s t
 near known s t h = record {
@@ -79,5 +79,5 @@ steps code known s t h reads =
 pub runs_by_reads : RunsDependOnReads
 runs_by_reads code known s t n h reads =
     let law =
-    runs code every known s t n (near known s t h) reads (λ m lt. knows (parts_behind code every s m) _ (behind-all code every s m every-all)) in
-    (alike _ _ _ _ (behind-all code every s n every-all) law.0, law.1)
+    runs code every known s t n (near known s t h) reads (λ m lt. knows (parts_known_after code every s m) _ (following-all code every s m every-all)) in
+    (alike _ _ _ _ (following-all code every s n every-all) law.0, law.1)

@@ -11,7 +11,7 @@ use Rattle.a2_page.specs.declared.Page.TheVariants.{One, Two}
 use Rattle.a2_page.specs.Cells.{Cell, cell_at, address_of, numbers_from}
 use Rattle.a2_page.specs.Grid.{Grid, IsGrid, Window, byte_in, with_part, with_parts_from, with_row_part, blank, blank_part, scrolled, cleared}
 use Rattle.a2_page.specs.Window.{IsWindow}
-use Rattle.a2_page.proofs.Finding.{StandsAt, cell_at-stands}
+use Rattle.a2_page.proofs.Finding.{IsCellAtAddress, cell_at-stands}
 use Rattle.a2_page.proofs.Parts.{spliced, spliced-length, spliced-before, spliced-in, spliced-after, spliced-none, spliced-whole, range-at, range_long, with_row_part-here, with_row_part-other, with_row_part-height, scrolled-in, scrolled-last, scrolled-out, scrolled-height, cleared-in, cleared-out, cleared-height}
 use Rattle.a2_bus.specs.Memory.{Memory, grid, ram_byte, ram_end}
 use Rattle.a2_bus.proofs.Viewing.{cell_seen}
@@ -43,7 +43,7 @@ cell_or_kept a = go (cell_at a) refl
         → IsCell a ⊎ ((m : Memory) (page : Grid) → shows (with_page1 page m) a found ≡ shows m a found)
     go None is = inr (λ m page. refl)
     go (Some cell) is =
-        let stands : StandsAt a cell = cell_at-stands a cell is in
+        let stands : IsCellAtAddress a cell = cell_at-stands a cell is in
         by_page cell.page cell.row cell.column stands.row_ok stands.column_ok stands.address_is
 
 -- the byte of a cell in a new page

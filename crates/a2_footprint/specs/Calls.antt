@@ -10,20 +10,20 @@ use Rattle.a2_machine.specs.Meaning.{Code, Decoded, stuck, world_at}
 use Rattle.a2_footprint.specs.InstructionReads.{pull_address}
 use Rattle.a2_footprint.specs.Reads.{AgreeOn}
 use Rattle.a2_footprint.specs.declared.Part.{Part}
-use Rattle.a2_footprint.specs.Runs.{RunReads, stores_in, known_behind}
-use Rattle.a2_footprint.specs.Uses.{Near, RunNeeds, parts_behind}
+use Rattle.a2_footprint.specs.Runs.{RunReads, stores_in, bytes_known_after}
+use Rattle.a2_footprint.specs.Uses.{Near, RunNeeds, parts_known_after}
 use Rattle.a2_footprint.specs.Promises.{Promise, IsKnown, Holds, Meets, known_bytes, known_parts, selected}
 
 -- This many steps lead to an RTS, with S as at the entry. None of them stores at the return address, which need not be
 -- known.
-pub record ComesToRts (code : Code) (parts : Part → Bool) (bytes : ℕ → Bool) (start : World) (n : ℕ) : Type 0 where
+pub record ReachesRts (code : Code) (parts : Part → Bool) (bytes : ℕ → Bool) (start : World) (n : ℕ) : Type 0 where
   pub reads : RunReads code bytes start n
   pub needs : RunNeeds code parts start n
   pub going : stuck code (world_at code start n) ≡ None
   pub no_service : service_at (world_at code start n).registers.pc ≡ None
   pub rts : Decoded
   pub is_rts : rts.row.mnemonic ≡ Rts
-  pub found : (other : Memory) → AgreeOn (known_behind code bytes start n) (world_at code start n).memory other
+  pub found : (other : Memory) → AgreeOn (bytes_known_after code bytes start n) (world_at code start n).memory other
       → code.instruction_at other (world_at code start n).registers.pc ≡ Ok rts
   pub s : (world_at code start n).registers.s ≡ start.registers.s
   pub low : IsNotIn (pull_address start.registers.s 1) (stores_in code start n)
@@ -45,16 +45,16 @@ pub record GoesBack (code : Code) (start : World) (n : ℕ) : Type 0 where
 abbrev pub CallsGoBack : Type 0
 CallsGoBack =
     (code : Code) (parts : Part → Bool) (bytes : ℕ → Bool) (s t : World) (n : ℕ) → Near parts (AgreeOn bytes) s t
-    → ComesToRts code parts bytes s n → GoesBack code t n
+    → ReachesRts code parts bytes s n → GoesBack code t n
 
 -- A promise about calls: the routine reaches an RTS within the limit, and the postcondition holds there.
 pub record CallPasses (promise : Promise) (limit : ℕ) (start : World) : Type 0 where
   pub steps : ℕ
   pub within : steps ≤ limit
-  pub comes : ComesToRts promise.code (known_parts promise) (known_bytes promise) start steps
-  pub shown : IsKnown (known_behind promise.code (known_bytes promise) start steps)
-      (parts_behind promise.code (known_parts promise) start steps) promise.behind
-  pub passed : IsTrue (promise.test (selected promise.before start) (selected promise.behind (world_at promise.code start steps)))
+  pub comes : ReachesRts promise.code (known_parts promise) (known_bytes promise) start steps
+  pub shown : IsKnown (bytes_known_after promise.code (known_bytes promise) start steps)
+      (parts_known_after promise.code (known_parts promise) start steps) promise.following
+  pub passed : IsTrue (promise.test (selected promise.before start) (selected promise.following (world_at promise.code start steps)))
 
 -- the routine returns to its caller within the limit, the postcondition holds, and it changes only bytes at which it
 -- stores
@@ -62,7 +62,7 @@ pub record CallKeeps (promise : Promise) (limit : ℕ) (world : World) : Type 0 
   pub steps : ℕ
   pub within : steps ≤ limit
   pub back : GoesBack promise.code world steps
-  pub passed : IsTrue (promise.test (selected promise.before world) (selected promise.behind (world_at promise.code world steps)))
+  pub passed : IsTrue (promise.test (selected promise.before world) (selected promise.following (world_at promise.code world steps)))
   pub rest : (b : ℕ) → IsNotIn b (stores_in promise.code world steps)
       → ram_byte (world_at promise.code world (suc steps)).memory b ≡ ram_byte world.memory b
 

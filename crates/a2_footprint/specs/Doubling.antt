@@ -34,7 +34,7 @@ doubling_promise memory = record {
   fixed = only_bytes (0x1FE ∷ 0x1FF ∷ []);
   before = only_a;
   required = λ entry. nat_lt entry.registers.a 128;
-  behind = only_bytes (0x06 ∷ []);
+  following = only_bytes (0x06 ∷ []);
   test = λ entry end. slice_index end.bytes 0 == 2 * entry.registers.a;
 }
 

@@ -1,6 +1,6 @@
 pub mod InstructionReads
 pub mod InstructionParts
-pub mod Few
+pub mod UpToThree
 pub mod Reads
 pub mod Parts
 pub mod Services
@@ -14,4 +14,4 @@ pub mod Calls
 pub mod Boards
 pub mod Counting
 pub mod Stays
-pub mod Turned
+pub mod RotatedStack

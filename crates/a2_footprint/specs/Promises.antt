@@ -12,8 +12,8 @@ use Rattle.a2_machine.specs.Meaning.{Code, IsEnd, return_address, world_at}
 use Rattle.a2_footprint.specs.declared.Part.{Part}
 use Rattle.a2_footprint.specs.declared.Part.TheVariants.{A as part_a, X as part_x, Y as part_y, N as part_n, V as part_v, D as part_d, I as part_i, Z as part_z, C as part_c}
 use Rattle.a2_footprint.specs.Parts.{held, MatchAt}
-use Rattle.a2_footprint.specs.Runs.{RunReads, known_behind, stores_in}
-use Rattle.a2_footprint.specs.Uses.{RunNeeds, parts_behind}
+use Rattle.a2_footprint.specs.Runs.{RunReads, bytes_known_after, stores_in}
+use Rattle.a2_footprint.specs.Uses.{RunNeeds, parts_known_after}
 
 -- addresses of RAM, and registers and flags
 pub record Selection : Type 0 where
@@ -65,7 +65,7 @@ pub record Promise : Type 0 where
   pub before : Selection
   pub required : Selected → Bool
   -- the postcondition, a test of those values and of the values that this selection has at the end
-  pub behind : Selection
+  pub following : Selection
   pub test : Selected → Selected → Bool
 
 -- the bytes and parts that a run may use before it stores or sets them
@@ -103,9 +103,9 @@ pub record Passes (promise : Promise) (limit : ℕ) (start : World) : Type 0 whe
   pub reads : RunReads promise.code (known_bytes promise) start steps
   pub needs : RunNeeds promise.code (known_parts promise) start steps
   pub home : (world_at promise.code start steps).registers.pc ≡ return_address
-  pub shown : IsKnown (known_behind promise.code (known_bytes promise) start steps)
-      (parts_behind promise.code (known_parts promise) start steps) promise.behind
-  pub passed : IsTrue (promise.test (selected promise.before start) (selected promise.behind (world_at promise.code start steps)))
+  pub shown : IsKnown (bytes_known_after promise.code (known_bytes promise) start steps)
+      (parts_known_after promise.code (known_parts promise) start steps) promise.following
+  pub passed : IsTrue (promise.test (selected promise.before start) (selected promise.following (world_at promise.code start steps)))
 
 -- a promise holds: the base passes with all inputs that meet the precondition
 pub record Holds (promise : Promise) (Pass : World → Type 0) : Type 0 where
@@ -130,7 +130,7 @@ pub record Keeps (promise : Promise) (limit : ℕ) (world : World) : Type 0 wher
   pub steps : ℕ
   pub within : steps ≤ limit
   pub ends : IsEnd promise.code world limit (record { world = world_at promise.code world steps; steps = steps; cause = Returned })
-  pub passed : IsTrue (promise.test (selected promise.before world) (selected promise.behind (world_at promise.code world steps)))
+  pub passed : IsTrue (promise.test (selected promise.before world) (selected promise.following (world_at promise.code world steps)))
   pub rest : (b : ℕ) → IsNotIn b (stores_in promise.code world steps)
       → ram_byte (world_at promise.code world steps).memory b ≡ ram_byte world.memory b
 

@@ -71,14 +71,14 @@ stores_in code start zero = []
 stores_in code start (suc n) = stores_in code start n ++ step_stores code (world_at code start n)
 
 -- the bytes known after this many steps: those known before, and those that were stored
-unfoldable pub known_behind : Code → (ℕ → Bool) → World → ℕ → ℕ → Bool
-known_behind code known start zero = known
-known_behind code known start (suc n) = with_bytes (step_stores code (world_at code start n)) (known_behind code known start n)
+unfoldable pub bytes_known_after : Code → (ℕ → Bool) → World → ℕ → ℕ → Bool
+bytes_known_after code known start zero = known
+bytes_known_after code known start (suc n) = with_bytes (step_stores code (world_at code start n)) (bytes_known_after code known start n)
 
 -- this many steps read only bytes that were known, or that earlier steps stored
 abbrev pub RunReads : Code → (ℕ → Bool) → World → ℕ → Type 0
 RunReads code known start n =
-    (k : ℕ) → k < n → StepReads code (known_behind code known start k) (world_at code start k)
+    (k : ℕ) → k < n → StepReads code (bytes_known_after code known start k) (world_at code start k)
 
 -- This many steps from two worlds: none from the other world is stuck, both runs store at the same addresses, and each
 -- other byte is unchanged. If the run from the first world returns, so does the other.
@@ -92,4 +92,4 @@ pub record RunsAlike (code : Code) (s t : World) (n : ℕ) : Type 0 where
 abbrev pub RunsDependOnReads : Type 0
 RunsDependOnReads =
     (code : Code) (known : ℕ → Bool) (s t : World) (n : ℕ) → Alike (AgreeOn known) s t → RunReads code known s n
-    → Alike (AgreeOn (known_behind code known s n)) (world_at code s n) (world_at code t n) × RunsAlike code s t n
+    → Alike (AgreeOn (bytes_known_after code known s n)) (world_at code s n) (world_at code t n) × RunsAlike code s t n

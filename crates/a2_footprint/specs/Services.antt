@@ -8,7 +8,7 @@ use Rattle.a2_page.specs.Grid.{Window, blank}
 use Rattle.a2_bus.specs.Locations as at
 use Rattle.a2_bus.specs.Memory.{Memory, ram_byte}
 use Rattle.a2_effect.specs.Registers.{Registers}
-use Rattle.a2_services.specs.Blocks.{span_of}
+use Rattle.a2_services.specs.Blocks.{numbers_from_to}
 use Rattle.a2_services.specs.Bytes.{carriage_return, line_feed, backspace}
 use Rattle.a2_services.specs.declared.rows.Service.{Service}
 use Rattle.a2_services.specs.declared.rows.Needs.{Needs}
@@ -80,10 +80,10 @@ block_cell row column = address_of One (row / 2) column
 
 -- the cells of the blocks that HLINE plots, and of those that VLINE plots
 abbrev pub blocks_across : Registers → Memory → List ℕ
-blocks_across registers memory = map (λ column. block_cell registers.a column) (span_of registers.y (ram_byte memory at.h2))
+blocks_across registers memory = map (λ column. block_cell registers.a column) (numbers_from_to registers.y (ram_byte memory at.h2))
 
 abbrev pub blocks_down : Registers → Memory → List ℕ
-blocks_down registers memory = map (λ row. block_cell row registers.y) (span_of registers.a (ram_byte memory at.v2))
+blocks_down registers memory = map (λ row. block_cell row registers.y) (numbers_from_to registers.a (ram_byte memory at.v2))
 
 -- A byte that is printed
 
@@ -136,33 +136,33 @@ fit_bytes need.Down = at.v2 ∷ []
 fit_bytes _ = []
 
 -- the bytes that hold where execution continues: those of a hook, or the return address
-abbrev pub way_by : Takes → ℕ → List ℕ
-way_by span.OutputHook s = at.csw ∷ (at.csw + 1) ∷ []
-way_by span.InputHook s = at.ksw ∷ (at.ksw + 1) ∷ []
-way_by _ s = pull_address s 1 ∷ pull_address s 2 ∷ []
+abbrev pub continuation_bytes_by : Takes → ℕ → List ℕ
+continuation_bytes_by span.OutputHook s = at.csw ∷ (at.csw + 1) ∷ []
+continuation_bytes_by span.InputHook s = at.ksw ∷ (at.ksw + 1) ∷ []
+continuation_bytes_by _ s = pull_address s 1 ∷ pull_address s 2 ∷ []
 
-abbrev pub way_bytes : Service → ℕ → List ℕ
-way_bytes service s = way_by (service_row service).takes s
+abbrev pub continuation_bytes : Service → ℕ → List ℕ
+continuation_bytes service s = continuation_bytes_by (service_row service).takes s
 
 -- the bytes from which it computes what it stores
-abbrev pub bytes_made_of : OnScreen → Registers → Memory → List ℕ
-bytes_made_of cells.PutsByte registers memory = at.invflg ∷ put_moves registers.a memory
-bytes_made_of cells.PutsDigits registers memory =
+abbrev pub screen_bytes_used : OnScreen → Registers → Memory → List ℕ
+screen_bytes_used cells.PutsByte registers memory = at.invflg ∷ put_moves registers.a memory
+screen_bytes_used cells.PutsDigits registers memory =
     let high = digit_byte (registers.a / 16) in
     at.invflg ∷ put_moves high memory ++ put_moves (digit_byte (registers.a % 16)) (after_put high memory)
-bytes_made_of cells.PutsDigit registers memory = at.invflg ∷ put_moves (digit_byte (registers.a % 16)) memory
-bytes_made_of cells.PaintsBlock registers memory = at.color ∷ block_cell registers.a registers.y ∷ []
-bytes_made_of cells.PaintsAcross registers memory = at.color ∷ blocks_across registers memory
-bytes_made_of cells.PaintsDown registers memory = at.color ∷ blocks_down registers memory
-bytes_made_of cells.LooksAtBlock registers memory = block_cell registers.a registers.y ∷ []
-bytes_made_of _ registers memory = []
+screen_bytes_used cells.PutsDigit registers memory = at.invflg ∷ put_moves (digit_byte (registers.a % 16)) memory
+screen_bytes_used cells.PaintsBlock registers memory = at.color ∷ block_cell registers.a registers.y ∷ []
+screen_bytes_used cells.PaintsAcross registers memory = at.color ∷ blocks_across registers memory
+screen_bytes_used cells.PaintsDown registers memory = at.color ∷ blocks_down registers memory
+screen_bytes_used cells.LooksAtBlock registers memory = block_cell registers.a registers.y ∷ []
+screen_bytes_used _ registers memory = []
 
 abbrev pub bytes_used : Service → Registers → Memory → List ℕ
-bytes_used service registers memory = bytes_made_of (service_row service).on_screen registers memory
+bytes_used service registers memory = screen_bytes_used (service_row service).on_screen registers memory
 
 unfoldable pub service_reads : Service → World → List ℕ
 service_reads service world =
-    way_bytes service world.registers.s
+    continuation_bytes service world.registers.s
     ++ fit_bytes (service_row service).needs
     ++ bytes_used service world.registers world.memory
 

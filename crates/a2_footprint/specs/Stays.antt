@@ -7,7 +7,7 @@ use Rattle.a2_footprint.specs.declared.Part.TheVariants.{A as part_a, X as part_
 use Rattle.a2_footprint.specs.Reads.{AgreeOn}
 use Rattle.a2_footprint.specs.Parts.{held}
 use Rattle.a2_footprint.specs.Runs.{RunReads}
-use Rattle.a2_footprint.specs.Uses.{Near, RunNeeds, parts_behind}
+use Rattle.a2_footprint.specs.Uses.{Near, RunNeeds, parts_known_after}
 
 -- a part is A, X or Y
 abbrev pub is_register : Part → Bool
@@ -22,5 +22,5 @@ abbrev pub UnknownRegistersStay : Type 0
 UnknownRegistersStay =
     (code : Code) (parts : Part → Bool) (bytes : ℕ → Bool) (s t : World) (n : ℕ) → Near parts (AgreeOn bytes) s t
     → RunReads code bytes s n → RunNeeds code parts s n
-    → (part : Part) → IsTrue (is_register part) → IsTrue (not (parts_behind code parts s n part))
+    → (part : Part) → IsTrue (is_register part) → IsTrue (not (parts_known_after code parts s n part))
     → held part (world_at code t n).registers ≡ held part t.registers

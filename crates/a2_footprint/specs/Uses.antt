@@ -9,7 +9,7 @@ use Rattle.a2_footprint.specs.Reads.{Knows, AgreeOn}
 use Rattle.a2_footprint.specs.declared.Part.{Part}
 use Rattle.a2_footprint.specs.InstructionParts.{needs, mode_needs, sets_parts}
 use Rattle.a2_footprint.specs.Parts.{MatchAt, with_parts}
-use Rattle.a2_footprint.specs.Runs.{RunReads, RunsAlike, known_behind}
+use Rattle.a2_footprint.specs.Runs.{RunReads, RunsAlike, bytes_known_after}
 use Rattle.a2_footprint.specs.Services.{service_needs, service_sets}
 
 -- two states agree in the known parts of the registers, have equal cycles, and their memories are related
@@ -37,19 +37,19 @@ step_sets code world =
     elim (service_at world.registers.pc) [ Some service ↦ service_sets service | None ↦ found_sets (found_at_pc code world) ]
 
 -- the parts known after this many steps: those known before, and those that were set
-unfoldable pub parts_behind : Code → (Part → Bool) → World → ℕ → Part → Bool
-parts_behind code known start zero = known
-parts_behind code known start (suc n) =
-    with_parts (step_sets code (world_at code start n)) (parts_behind code known start n)
+unfoldable pub parts_known_after : Code → (Part → Bool) → World → ℕ → Part → Bool
+parts_known_after code known start zero = known
+parts_known_after code known start (suc n) =
+    with_parts (step_sets code (world_at code start n)) (parts_known_after code known start n)
 
 -- this many steps use only parts that were known, or that earlier steps set
 abbrev pub RunNeeds : Code → (Part → Bool) → World → ℕ → Type 0
 RunNeeds code known start n =
-    (k : ℕ) → k < n → Knows (parts_behind code known start k) (step_needs code (world_at code start k))
+    (k : ℕ) → k < n → Knows (parts_known_after code known start k) (step_needs code (world_at code start k))
 
 abbrev pub RunsDependOnUses : Type 0
 RunsDependOnUses =
     (code : Code) (parts : Part → Bool) (bytes : ℕ → Bool) (s t : World) (n : ℕ) → Near parts (AgreeOn bytes) s t
     → RunReads code bytes s n → RunNeeds code parts s n
-    → Near (parts_behind code parts s n) (AgreeOn (known_behind code bytes s n)) (world_at code s n) (world_at code t n)
+    → Near (parts_known_after code parts s n) (AgreeOn (bytes_known_after code bytes s n)) (world_at code s n) (world_at code t n)
     × RunsAlike code s t n

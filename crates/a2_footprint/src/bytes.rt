@@ -6,7 +6,7 @@ ghost use Rattle.a2_effect.specs.Place.{place_of, zero_page_word};
 ghost use Rattle.a2_effect.specs.Effect.{effect_of};
 ghost use Rattle.a2_effect.specs.View.{registers_of};
 ghost use Rattle.a2_footprint.specs.InstructionReads.{effect_reads, jump_reads, place_reads, pointer_reads, pull_address as pulled_at};
-ghost use Rattle.a2_footprint.specs.Few.{addresses_for};
+ghost use Rattle.a2_footprint.specs.UpToThree.{addresses_for};
 
 use a2_bus::Bus;
 use a2_cpu::Regs;
@@ -24,7 +24,7 @@ pub struct BytesRead {
 
 // At most three addresses.
 #[derive(Clone, Copy)]
-enum Few {
+enum UpToThree {
     None,
     One(u16),
     Two(u16, u16),
@@ -32,18 +32,18 @@ enum Few {
 }
 
 // Returns the same addresses as a list.
-fn listed(few: Few) -> ArrayVec<u16, 3>
+fn listed(few: UpToThree) -> ArrayVec<u16, 3>
     ensures { result.items ≡ addresses_for few }
 {
     let mut addresses = ArrayVec::new();
     match few {
-        Few::None => {}
-        Few::One(address) => addresses.push(address),
-        Few::Two(first, second) => {
+        UpToThree::None => {}
+        UpToThree::One(address) => addresses.push(address),
+        UpToThree::Two(first, second) => {
             addresses.push(first);
             addresses.push(second);
         }
-        Few::Three(first, second, third) => {
+        UpToThree::Three(first, second, third) => {
             addresses.push(first);
             addresses.push(second);
             addresses.push(third);
@@ -53,17 +53,17 @@ fn listed(few: Few) -> ArrayVec<u16, 3>
 }
 
 // Returns the addresses in page 0 that hold the operand's address.
-fn pointer_of(mode: Mode, value: u16, regs: &Regs) -> Few
+fn pointer_of(mode: Mode, value: u16, regs: &Regs) -> UpToThree
     requires { IsPointer mode value }
     ensures { addresses_for result ≡ pointer_reads mode value (registers_of regs.now) }
 {
     match mode {
         Mode::IndexedIndirect => {
             let at = value.wrapping_add(u16::from(regs.x)) % 256;
-            Few::Two(at, (at + 1) % 256)
+            UpToThree::Two(at, (at + 1) % 256)
         }
-        Mode::IndirectIndexed => Few::Two(value, (value + 1) % 256),
-        _ => Few::None,
+        Mode::IndirectIndexed => UpToThree::Two(value, (value + 1) % 256),
+        _ => UpToThree::None,
     }
 }
 
@@ -78,30 +78,30 @@ fn low_word<B: Bus>(bus: &B, address: u16) -> u16
 }
 
 // Returns the operand's address.
-fn operand_at<B: Bus>(mode: Mode, value: u16, regs: &Regs, bus: &B) -> Few
+fn operand_at<B: Bus>(mode: Mode, value: u16, regs: &Regs, bus: &B) -> UpToThree
     requires { IsPointer mode value }
     ensures { addresses_for result ≡ place_reads (place_of B.access (B.state bus.now) (registers_of regs.now) mode value) }
 {
     let (x, y) = (u16::from(regs.x), u16::from(regs.y));
     match mode {
-        Mode::Implied | Mode::Accumulator | Mode::Immediate | Mode::Indirect => Few::None,
-        Mode::ZeroPage | Mode::Absolute | Mode::Relative => Few::One(value),
-        Mode::ZeroPageX => Few::One(value.wrapping_add(x) % 256),
-        Mode::ZeroPageY => Few::One(value.wrapping_add(y) % 256),
-        Mode::AbsoluteX => Few::One(value.wrapping_add(x)),
-        Mode::AbsoluteY => Few::One(value.wrapping_add(y)),
-        Mode::IndexedIndirect => Few::One(low_word(bus, value.wrapping_add(x) % 256)),
-        Mode::IndirectIndexed => Few::One(low_word(bus, value).wrapping_add(y)),
+        Mode::Implied | Mode::Accumulator | Mode::Immediate | Mode::Indirect => UpToThree::None,
+        Mode::ZeroPage | Mode::Absolute | Mode::Relative => UpToThree::One(value),
+        Mode::ZeroPageX => UpToThree::One(value.wrapping_add(x) % 256),
+        Mode::ZeroPageY => UpToThree::One(value.wrapping_add(y) % 256),
+        Mode::AbsoluteX => UpToThree::One(value.wrapping_add(x)),
+        Mode::AbsoluteY => UpToThree::One(value.wrapping_add(y)),
+        Mode::IndexedIndirect => UpToThree::One(low_word(bus, value.wrapping_add(x) % 256)),
+        Mode::IndirectIndexed => UpToThree::One(low_word(bus, value).wrapping_add(y)),
     }
 }
 
 // Returns the addresses of the pointer that an indirect JMP uses.
-fn jump_at<B: Bus>(mode: Mode, value: u16, regs: &Regs, bus: &B) -> Few
+fn jump_at<B: Bus>(mode: Mode, value: u16, regs: &Regs, bus: &B) -> UpToThree
     ensures { addresses_for result ≡ jump_reads (place_of B.access (B.state bus.now) (registers_of regs.now) mode value) }
 {
     match mode {
-        Mode::Indirect => Few::Two(value, 256 * (value / 256) + (value % 256 + 1) % 256),
-        _ => Few::None,
+        Mode::Indirect => UpToThree::Two(value, 256 * (value / 256) + (value % 256 + 1) % 256),
+        _ => UpToThree::None,
     }
 }
 
@@ -116,7 +116,7 @@ pub fn pull_address(s: u8, count: u8) -> u16
 
 // Returns the addresses that a mnemonic reads, given its operand.
 #[tactic(auto, unfolding(a2_effect::specs::Effect::effect_of))]
-fn effect_at<B: Bus>(instr: Instr, regs: &Regs, bus: &B) -> Few
+fn effect_at<B: Bus>(instr: Instr, regs: &Regs, bus: &B) -> UpToThree
     requires { IsPointer instr.mode instr.value }
     ensures { addresses_for result ≡ effect_reads (effect_of instr.mnemonic)
         (place_of B.access (B.state bus.now) (registers_of regs.now) instr.mode instr.value) (registers_of regs.now).s }
@@ -142,10 +142,14 @@ fn effect_at<B: Bus>(instr: Instr, regs: &Regs, bus: &B) -> Few
         | Mnemonic::Ror
         | Mnemonic::Sbc => operand_at(instr.mode, instr.value, regs, bus),
         Mnemonic::Jmp => jump_at(instr.mode, instr.value, regs, bus),
-        Mnemonic::Pla | Mnemonic::Plp => Few::One(pull_address(s, 1)),
-        Mnemonic::Rts => Few::Two(pull_address(s, 1), pull_address(s, 2)),
-        Mnemonic::Rti => Few::Three(pull_address(s, 1), pull_address(s, 2), pull_address(s, 3)),
-        _ => Few::None,
+        Mnemonic::Pla | Mnemonic::Plp => UpToThree::One(pull_address(s, 1)),
+        Mnemonic::Rts => UpToThree::Two(pull_address(s, 1), pull_address(s, 2)),
+        Mnemonic::Rti => UpToThree::Three(
+            pull_address(s, 1),
+            pull_address(s, 2),
+            pull_address(s, 3),
+        ),
+        _ => UpToThree::None,
     }
 }
 

@@ -10,7 +10,7 @@ ghost use Rattle.a2_footprint.specs.Promises.{PromisesHoldEverywhere, TriesDepen
 ghost use Rattle.a2_footprint.specs.Serving.{ServicesDependOnUses, ServicesKeepTheRest};
 ghost use Rattle.a2_footprint.specs.Stays.{UnknownRegistersStay};
 ghost use Rattle.a2_footprint.specs.Runs.{InstructionsDependOnReads, StepsDependOnReads, RunsDependOnReads};
-ghost use Rattle.a2_footprint.specs.Turned.{RunsOffStackAlike, RunsTurnAlike};
+ghost use Rattle.a2_footprint.specs.RotatedStack.{RunsOffStackAlike, RunsAlikeOnRotatedStack};
 ghost use Rattle.a2_footprint.specs.Uses.{RunsDependOnUses};
 
 /// A theorem, and no code: an instruction does the same in two states that hold the same bytes at the addresses it
@@ -55,8 +55,8 @@ pub fn unknown_registers_stay()
 
 /// A theorem, and no code: steps of code without a guard that use the stack only through S do the same for every value
 /// of S. They leave the same state, except where the stack is.
-pub fn runs_turn_alike()
-    ensures { RunsTurnAlike }
+pub fn runs_alike_on_rotated_stack()
+    ensures { RunsAlikeOnRotatedStack }
 {}
 
 /// A theorem, and no code: if the steps of a run use the stack only through S, so do those of a run from another world

@@ -11,7 +11,7 @@ pub use bytes::{BytesRead, pull_address, reads};
 pub use laws::{
     boards_read_as_their_memory, call_promises_hold_everywhere, calls_go_back, doubling_holds,
     fetches_depend_on_reads, instructions_depend_on_reads, promises_hold_everywhere,
-    runs_depend_on_reads, runs_depend_on_uses, runs_off_stack_alike, runs_turn_alike,
+    runs_alike_on_rotated_stack, runs_depend_on_reads, runs_depend_on_uses, runs_off_stack_alike,
     services_depend_on_uses, services_keep_the_rest, states_are_counted, steps_by_bytes_read,
     steps_depend_on_reads, tries_depend_on_inputs, unknown_registers_stay,
 };

@@ -14,9 +14,9 @@ use Rattle.a2_hex.specs.Images.{no_bytes, ram_end}
 use Rattle.a2_hex.specs.ObjectLines.{Store, store_of, Loaded, lies_outside, after_bytes, after_store_line, after_line, after_lines, image_of, ◌>>=◌}
 
 -- the bytes after the first one
-pub bytes_behind : (o p : Option (List ℕ)) (byte : ℕ) (xs : List ℕ) → o ≡ option_map (λ others. byte ∷ others) p → o ≡ Some xs → (ys : List ℕ) × (p ≡ Some ys) × (xs ≡ byte ∷ ys)
-bytes_behind o None byte xs e h = cc
-bytes_behind o (Some ys) byte xs e h = (ys, refl, same_Some xs (byte ∷ ys) (sym h ∙ e))
+pub bytes_after : (o p : Option (List ℕ)) (byte : ℕ) (xs : List ℕ) → o ≡ option_map (λ others. byte ∷ others) p → o ≡ Some xs → (ys : List ℕ) × (p ≡ Some ys) × (xs ≡ byte ∷ ys)
+bytes_after o None byte xs e h = cc
+bytes_after o (Some ys) byte xs e h = (ys, refl, same_Some xs (byte ∷ ys) (sym h ∙ e))
 
 pub bytes_over : (o : Option (List ℕ)) (xs : List ℕ) → IfSome o (λ bytes. bytes ≡ []) → o ≡ Some xs → xs ≡ []
 bytes_over o xs h e = (let P : Option (List ℕ) → Type 0 = λ p. IfSome p (λ bytes. bytes ≡ []) in subst P e h)

@@ -21,13 +21,13 @@ cases_byte None = inr refl
 lines-push : {after next : Loaded} (line : List ℕ) → ((n : ℕ) → after_line n after line ≡ Ok next) → (xs : List (List ℕ)) (n : ℕ) (before : Loaded)
     → after_lines n before xs ≡ Ok after → after_lines n before (xs ++ line ∷ []) ≡ Ok next
 lines-push {after = after} line step [] n before h = (let same : before ≡ after = cc in rw (same, step n))
-lines-push {after = after} {next = next} line step (x ∷ xs) n before h = behind (after_line n before x) h (lines-push line step xs (n + 1))
+lines-push {after = after} {next = next} line step (x ∷ xs) n before h = following (after_line n before x) h (lines-push line step xs (n + 1))
   where
-    behind : (r : Result Loaded HexFault) → (r >>= (λ l. after_lines (n + 1) l xs)) ≡ Ok after
+    following : (r : Result Loaded HexFault) → (r >>= (λ l. after_lines (n + 1) l xs)) ≡ Ok after
         → ((mid : Loaded) → after_lines (n + 1) mid xs ≡ Ok after → after_lines (n + 1) mid (xs ++ line ∷ []) ≡ Ok next)
         → (r >>= (λ l. after_lines (n + 1) l (xs ++ line ∷ []))) ≡ Ok next
-    behind (Ok mid) e more = more mid e
-    behind (Err fault) e more = cc
+    following (Ok mid) e more = more mid e
+    following (Err fault) e more = cc
 
 module _ (image : ℕ → Option ℕ) where
   -- a run of the image can only make a place equal to the image

@@ -12,11 +12,11 @@ use Rattle.std.proofs.lemmas.List.Sums.{AllPass-from_list_all}
 use Rattle.a2_text.specs.Bytes.{is_blank, is_digit_in, digit}
 use Rattle.a2_text.specs.Digits.{hex_digit, hex_pair, hex_word}
 use Rattle.a2_text.specs.Lines.{lines, lines_of_pieces}
-use Rattle.a2_text.specs.Words.{behind_blanks, words}
+use Rattle.a2_text.specs.Words.{after_blanks, words}
 use Rattle.a2_text.proofs.Cutting.{slice_split-some, lines_of_pieces-cons}
 use Rattle.a2_text.proofs.WordLaws.{words-first}
 use Rattle.a2_hex.specs.ObjectText.{after_blank, spaced, run, line_at, text_of_lines}
-use Rattle.a2_hex.specs.ObjectLines.{hex_address, byte_of, each, hex_bytes, given_before, store_of}
+use Rattle.a2_hex.specs.ObjectLines.{hex_address, byte_of, each, hex_bytes, address_before_colon, store_of}
 use Rattle.a2_hex.proofs.StoreLaws.{store_of_position}
 
 -- neither a line feed nor a carriage return
@@ -115,12 +115,12 @@ bytes_of-spaced (byte ∷ bytes) h = ap (λ (ws : List (List ℕ)). each (map by
 address-word : (a : ℕ) → a < 65536 → hex_address (hex_word a) ≡ Some a
 address-word a h = grind (arith, nat_tests)
 
-behind-word : (a : ℕ) (rest : List ℕ) → behind_blanks (hex_word a ++ rest) ≡ hex_word a ++ rest
-behind-word a rest = rw (digit-not_blank (a / 256 / 16))
+following-word : (a : ℕ) (rest : List ℕ) → after_blanks (hex_word a ++ rest) ≡ hex_word a ++ rest
+following-word a rest = rw (digit-not_blank (a / 256 / 16))
 
-given-word : (a : ℕ) → a < 65536 → given_before (hex_word a) ≡ Some (Some a)
-unfolding given_before
-given-word a h = rw (behind-word a [], address-word a h)
+given-word : (a : ℕ) → a < 65536 → address_before_colon (hex_word a) ≡ Some (Some a)
+unfolding address_before_colon
+given-word a h = rw (following-word a [], address-word a h)
 
 colon-at : (a : ℕ) (rest : List ℕ) → position is_colon (hex_word a ++ 58 ∷ rest) ≡ Some 4
 colon-at a rest = rw (digit-not_colon (a / 256 / 16), digit-not_colon (a / 256 % 16), digit-not_colon (a % 256 / 16), digit-not_colon (a % 256 % 16), lt-ltb 4 (length (hex_word a ++ 58 ∷ rest)) (omega arith))
@@ -133,4 +133,4 @@ pub words-line : (a : ℕ) (rest : List ℕ) → (word : List ℕ) × (others : 
 words-line a rest =
     let line : List ℕ = hex_word a ++ rest in
     let n = position_or_len is_blank line in
-    (take n line, words (drop n line), words-first line line n (sym (behind-word a rest)) (omega arith) refl)
+    (take n line, words (drop n line), words-first line line n (sym (following-word a rest)) (omega arith) refl)

@@ -93,8 +93,8 @@ module _ {old mid : Taker} {image : ℕ → Option ℕ} {a : ℕ} {piece : List 
   pub gathered-all : {T E : Type 0} (r : Result T E) (new : Taker) (end : ℕ) → ((a : ℕ) → end ≤ a → image a ≡ None) → end ≤ a → end ≤ ram_end
       → SendsOrBreaks mid new r piece → SendsOrBreaks old new r (object_text image)
   unfolding object_text
-  gathered-all r new end none behind le last =
-      subst (SendsOrBreaks old new r) (h.joined ∙ ap text_of_lines (same a behind ∙ sym (same ram_end le))) (went_on old mid new r h.sent piece h.out last)
+  gathered-all r new end none following le last =
+      subst (SendsOrBreaks old new r) (h.joined ∙ ap text_of_lines (same a following ∙ sym (same ram_end le))) (went_on old mid new r h.sent piece h.out last)
     where
       same : (k : ℕ) → end ≤ k → lines_below image k ≡ lines_below image end
       same k lt =

@@ -5,9 +5,9 @@ use Rattle.std.specs.Option.{option_map}
 use Rattle.std.specs.List.{before_first, after_first, list_any}
 use Rattle.a2_text.specs.Bytes.{number_in}
 use Rattle.a2_text.specs.Lines.{lines}
-use Rattle.a2_text.specs.Refusals.{◌otherwise◌}
+use Rattle.a2_text.specs.FirstError.{◌otherwise◌}
 use Rattle.a2_text.specs.Signs.{sign}
-use Rattle.a2_text.specs.Words.{behind_blanks, words}
+use Rattle.a2_text.specs.Words.{after_blanks, words}
 use Rattle.a2_hex.specs.Images.{no_bytes, overlaid, ram_end}
 use Rattle.a2_hex.specs.declared.fault.HexFault.{HexFault}
 use Rattle.a2_hex.specs.declared.fault.HexFault.TheVariants.{Digit, NoAddress, Outside}
@@ -41,8 +41,8 @@ given [] = Some None
 given (c ∷ digits) = option_map Some (hex_address (c ∷ digits))
 
 -- the optional address before `:`, after any blanks
-unfoldable pub given_before : List ℕ → Option (Option ℕ)
-given_before front = given (behind_blanks front)
+unfoldable pub address_before_colon : List ℕ → Option (Option ℕ)
+address_before_colon front = given (after_blanks front)
 
 -- what a line stores: its bytes, and the address of the first one if the line gives it
 pub record Store : Type 0 where
@@ -58,7 +58,7 @@ both (Some address) bytes = option_map (λ bytes. record { address = address; by
 unfoldable pub store_of : List ℕ → Option Store
 store_of text =
     if list_any (λ c. c == sign ":") text
-    then both (given_before (before_first (λ c. c == sign ":") text)) (hex_bytes (after_first (λ c. c == sign ":") text))
+    then both (address_before_colon (before_first (λ c. c == sign ":") text)) (hex_bytes (after_first (λ c. c == sign ":") text))
     else None
 
 -- what was loaded: the image, and the address at which a line without an address continues

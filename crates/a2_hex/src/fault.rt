@@ -4,7 +4,7 @@ ghost use Rattle.std.specs.Prelude.{◌≡◌, Some};
 ghost use Rattle.a2_hex.specs.Texts.{hex_fault_text};
 ghost use Rattle.a2_hex.specs.declared.fault.HexFault.TheVariants.{Memory};
 
-use a2_text::{RefusalText, refusal_text};
+use a2_text::{ErrorText, error_text};
 use std::alloc::{AllocError, AllocFailed};
 use std::error::Error;
 use std::fmt;
@@ -25,14 +25,14 @@ pub enum HexFault {
 impl HexFault {
     /// Returns the text of the error: `LINE `, the line number and a blank if the error belongs to a line, and the
     /// message.
-    pub fn text(&self) -> RefusalText
+    pub fn text(&self) -> ErrorText
         ensures { result.bytes ≡ hex_fault_text self.now }
     {
         match *self {
-            HexFault::Digit(line) => refusal_text(line, "H1 NOT HEX"),
-            HexFault::NoAddress(line) => refusal_text(line, "H2 NO ADDRESS"),
-            HexFault::Outside(line) => refusal_text(line, "H3 OUTSIDE RAM"),
-            HexFault::Memory => refusal_text(0, "NO MEMORY"),
+            HexFault::Digit(line) => error_text(line, "H1 NOT HEX"),
+            HexFault::NoAddress(line) => error_text(line, "H2 NO ADDRESS"),
+            HexFault::Outside(line) => error_text(line, "H3 OUTSIDE RAM"),
+            HexFault::Memory => error_text(0, "NO MEMORY"),
         }
     }
 }

@@ -85,7 +85,7 @@ impl<A: Allocator> Image<A> {
 
     /// Lays the image over `ram`, the 49,152 bytes from address 0. Each address at which the image has a byte gets that
     /// byte; every other address is unchanged.
-    pub fn lay_over(&self, ram: &mut [u8])
+    pub fn overlay(&self, ram: &mut [u8])
         requires { length ram.old ≡ ram_end }
         ensures size { length ram.new ≡ ram_end }
         ensures laid { (a : ℕ) → a < ram_end → slice_index ram.new a ≡ unwrap_or (held self.now a) (slice_index ram.old a) }

@@ -11,7 +11,7 @@ use a2_text::{cut, first_word};
 use std::alloc::Allocator;
 
 // Puts bytes at the addresses from this one upwards, and returns the address after them.
-fn lay<A: Allocator>(image: &mut Image<A>, address: u16, bytes: &[u8]) -> u16
+fn put_bytes_from<A: Allocator>(image: &mut Image<A>, address: u16, bytes: &[u8]) -> u16
     ghost all: { List ℕ }
     requires bytes { hex_bytes bytes.now ≡ Some all }
     requires room { lies_outside address (length all) ≡ false }
@@ -20,10 +20,10 @@ fn lay<A: Allocator>(image: &mut Image<A>, address: u16, bytes: &[u8]) -> u16
 {
     let mut next = address;
     let mut rest = bytes;
-    while let Some((byte, behind)) = first_byte(rest) {
+    while let Some((byte, following)) = first_byte(rest) {
         image.set(next, byte);
         next += 1;
-        rest = behind;
+        rest = following;
     }
     next
 }
@@ -52,7 +52,7 @@ fn load_line<A: Allocator>(
     if store.count > usize::from(RAM_END.saturating_sub(address)) {
         return Err(HexFault::Outside(number));
     }
-    Ok(Some(lay(image, address, store.bytes)))
+    Ok(Some(put_bytes_from(image, address, store.bytes)))
 }
 
 /// Returns the image that the object lines in `text` load, in memory of `alloc`.

@@ -4,10 +4,10 @@ ghost use Rattle.std.specs.Prelude.{◌≡◌, ◌<◌, ◌≤◌, ◌==◌, ℕ
 ghost use Rattle.std.specs.List.{position};
 ghost use Rattle.a2_text.specs.Signs.{sign};
 ghost use Rattle.a2_text.specs.Words.{words};
-ghost use Rattle.a2_hex.specs.ObjectLines.{first_byte_of, hex_bytes, given_before, store_of};
+ghost use Rattle.a2_hex.specs.ObjectLines.{first_byte_of, hex_bytes, address_before_colon, store_of};
 
 use crate::numbers::{address_of, byte_of};
-use a2_text::{behind_blanks, first_word};
+use a2_text::{after_blanks, first_word};
 
 /// A line that stores bytes, such as `300:A9 C1` or `:20 ED`. This project's profile of the Monitor's lines that change
 /// memory, Apple II Reference Manual (1979), chapter 3.
@@ -26,14 +26,14 @@ pub struct StoreLine<'a> {
 #[tactic(auto, unfolding(crate::specs::ObjectLines::hex_bytes))]
 pub fn first_byte(text: &[u8]) -> Option<(u8, &[u8])>
     ensures bytes { MatchOption result (IfSome (hex_bytes text.now) (λ bytes. bytes ≡ []))
-        (λ (byte, behind). hex_bytes text.now ≡ option_map (λ others. byte ∷ others) (hex_bytes behind.now)) }
+        (λ (byte, following). hex_bytes text.now ≡ option_map (λ others. byte ∷ others) (hex_bytes following.now)) }
     ensures first { option_map (λ (byte, _). byte) result ≡ first_byte_of (words text.now) }
-    ensures behind { IfSome result (λ (_, behind). words behind.now ≡ drop 1 (words text.now)) }
-    ensures shorter { IfSome result (λ (_, behind). length behind.now < length text.now) }
+    ensures following { IfSome result (λ (_, following). words following.now ≡ drop 1 (words text.now)) }
+    ensures shorter { IfSome result (λ (_, following). length following.now < length text.now) }
 {
-    let (word, behind) = first_word(text)?;
+    let (word, following) = first_word(text)?;
     let byte = byte_of(word)?;
-    Some((byte, behind))
+    Some((byte, following))
 }
 
 /// Returns how many bytes `text` has, 0 if it is blank. Returns `None` if one of its words, separated by blanks, is not
@@ -44,10 +44,10 @@ pub fn count_bytes(text: &[u8]) -> Option<usize>
 {
     let mut count = 0;
     let mut rest = text;
-    while let Some((word, behind)) = first_word(rest) {
+    while let Some((word, following)) = first_word(rest) {
         byte_of(word)?;
         count += 1;
-        rest = behind;
+        rest = following;
     }
     Some(count)
 }
@@ -62,11 +62,11 @@ fn colon(text: &[u8]) -> Option<usize>
 
 // Returns `Some` of the address before `:`, which is `None` if nothing is there. Returns `None` if it is not an
 // address.
-#[tactic(auto, unfolding(crate::specs::ObjectLines::given_before))]
-fn given_before(front: &[u8]) -> Option<Option<u16>>
-    ensures { result ≡ given_before front.now }
+#[tactic(auto, unfolding(crate::specs::ObjectLines::address_before_colon))]
+fn address_before_colon(front: &[u8]) -> Option<Option<u16>>
+    ensures { result ≡ address_before_colon front.now }
 {
-    let digits = behind_blanks(front);
+    let digits = after_blanks(front);
     if digits.is_empty() {
         return Some(None);
     }
@@ -85,7 +85,7 @@ pub fn store_line(text: &[u8]) -> Option<StoreLine<'_>>
 {
     let end = colon(text)?;
     let bytes = &text[end + 1..];
-    let address = given_before(&text[..end])?;
+    let address = address_before_colon(&text[..end])?;
     let count = count_bytes(bytes)?;
     Some(StoreLine {
         address,

@@ -12,7 +12,7 @@ use Rattle.a2_history.specs.declared.Halt.{Halt}
 use Rattle.a2_history.specs.declared.Halt.TheVariants.{Seen, Stopped}
 use Rattle.a2_history.specs.Courses.{Course, with_logged, arrived, world_on, NoneStuck}
 use Rattle.a2_history.specs.Going.{IsOn, Advances}
-use Rattle.a2_history.specs.Gone.{IsCauseAt, IsGone}
+use Rattle.a2_history.specs.Gone.{IsCauseAt, HasRunTo}
 
 -- A machine that has not executed any step is at its start.
 pub on-new : (course : Course) (state : MachineState) → course ≡ (let fresh : Course = record { origin = state; log = [] } in fresh) → state.steps ≡ 0 → IsOn course state
@@ -61,7 +61,7 @@ run-cause old new cause run = why (subst (λ d. Why d) (run-kept old new cause r
     why (inr is) = inr (is.0, is.2)
 
 -- If something was seen or the machine was stuck before the end, that is reported.
-pub gone-some : (seen : World → Bool) (course : Course) (from end to : ℕ) (halt : Halt) → IsGone seen course from end to (Some halt) → NoneStuck course to
+pub gone-some : (seen : World → Bool) (course : Course) (from end to : ℕ) (halt : Halt) → HasRunTo seen course from end to (Some halt) → NoneStuck course to
     → Advances seen course from end to halt
 gone-some seen course from end to Seen gone went =
     record { ahead = gone.ahead; within = gone.within; passed = gone.passed; went = went; ends = gone.why_is }
@@ -69,7 +69,7 @@ gone-some seen course from end to (Stopped cause) gone went =
     record { ahead = gone.ahead; within = gone.within; passed = gone.passed; went = went; ends = (gone.why_is.0, inl gone.why_is.1) }
 
 -- At the end, the machine's cause is reported.
-pub gone-none : (seen : World → Bool) (course : Course) (from end to : ℕ) (state : MachineState) (cause : Cause) → IsGone seen course from end to None
+pub gone-none : (seen : World → Bool) (course : Course) (from end to : ℕ) (state : MachineState) (cause : Cause) → HasRunTo seen course from end to None
     → IsOn course state → state.guard ≡ course.origin.guard → state.steps ≡ to → IsCauseAt state cause → Advances seen course from end to (Stopped cause)
 gone-none seen course from end to state cause gone on guarded at is =
     record {

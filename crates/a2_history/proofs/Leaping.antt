@@ -7,7 +7,7 @@ use Rattle.a2_burst.specs.Shown.{Shown}
 use Rattle.a2_services.specs.World.{World}
 use Rattle.a2_machine.specs.declared.causes.Cause.{Cause}
 use Rattle.a2_machine.specs.ByteRun.{bytes}
-use Rattle.a2_machine.specs.Looks.{shown_between, shown_at, seen_after}
+use Rattle.a2_machine.specs.Looks.{shown_between, shown_at, observer_after}
 use Rattle.a2_machine.specs.Meaning.{Code, stuck, next, world_at}
 use Rattle.a2_machine.specs.State.{Device, world_of_state, code_of}
 use Rattle.a2_history.specs.declared.Halt.{Halt}
@@ -15,8 +15,8 @@ use Rattle.a2_history.specs.declared.Halt.TheVariants.{Seen, Stopped}
 use Rattle.a2_history.specs.declared.Typed.{Typed}
 use Rattle.a2_history.specs.declared.lookout.Watcher.{Watcher}
 use Rattle.a2_history.specs.Courses.{Course, typed, with_keys, with_logged, arrived, world_on, NoneStuck}
-use Rattle.a2_history.specs.Going.{IsOn, shown_on, Warns}
-use Rattle.a2_history.specs.Gone.{IsGone}
+use Rattle.a2_history.specs.Going.{IsOn, shown_on, AlarmsAreComplete}
+use Rattle.a2_history.specs.Gone.{HasRunTo}
 use Rattle.a2_history.specs.Bursts.{IsBurst, IsQuiet}
 use Rattle.a2_history.specs.Typing.{IsTypedBy}
 use Rattle.a2_history.proofs.Ways.{none-some}
@@ -52,8 +52,8 @@ logged-shown (t ∷ ts) n v w = logged-shown ts n v _ ∙ one (t.position == n)
 
 -- Observers that are shown the same become the same.
 shown-alike : {O : Type 0} (seen : O → Shown → O) (f g : ℕ → Shown) (o : O) (n : ℕ) → ((k : ℕ) → k < n → f k ≡ g k)
-    → seen_after seen f o n ≡ seen_after seen g o n
-unfolding seen_after
+    → observer_after seen f o n ≡ observer_after seen g o n
+unfolding observer_after
 shown-alike seen f g o zero same = refl
 shown-alike seen f g o (suc n) same = ap₂ seen (shown-alike seen f g o n (λ k l. same k (omega (arith, l)))) (same n (omega arith))
 
@@ -116,12 +116,12 @@ module _ (course : Course) (most to : ℕ) (old mid new : Device) (on : IsOn cou
       ∙ sym (logged-shown course.log (suc (old.state.steps + k)) (world_on course (old.state.steps + k)) (arrived course (suc (old.state.steps + k))))
       ∙ ap (λ n. shown_between (world_on course (old.state.steps + k)) (world_on course n)) e
 
-  pub burst-shown : {O : Type 0} (seen : O → Shown → O) (before after : O) → after ≡ seen_after seen (shown_at (code_of old.state) start) before count
-      → after ≡ seen_after seen (λ k. shown_on course (old.state.steps + k)) before (new.state.steps - old.state.steps)
+  pub burst-shown : {O : Type 0} (seen : O → Shown → O) (before after : O) → after ≡ observer_after seen (shown_at (code_of old.state) start) before count
+      → after ≡ observer_after seen (λ k. shown_on course (old.state.steps + k)) before (new.state.steps - old.state.steps)
   burst-shown seen before after is =
       let e : count ≡ new.state.steps - old.state.steps = omega (arith, typed_by.steps) in
       is ∙ shown-alike seen (shown_at (code_of old.state) start) (λ k. shown_on course (old.state.steps + k)) before count shown-along
-      ∙ ap (seen_after seen (λ k. shown_on course (old.state.steps + k)) before) e
+      ∙ ap (observer_after seen (λ k. shown_on course (old.state.steps + k)) before) e
 
 -- Before a position that was reached, some steps are run.
 pub leap-way : (course : Course) (end : ℕ) (old new : Device) (r : Option Cause) → IsOn course old.state → old.state.steps < end
@@ -135,16 +135,16 @@ leap-way course end old new (Some cause) on l went made ahead within told =
 -- An observer that records alarms and has recorded none was shown no step that raises one.
 module _ {O : Type 0} (seen : O → Shown → O) (is_alarmed : O → Bool) (alarms : Shown → Bool) (Is : O → Type 0)
     (step : (o : O) (shown : Shown) → Is o → Is (seen o shown) × (is_alarmed (seen o shown) ≡ (is_alarmed o || alarms shown))) where
-  stays : (f : ℕ → Shown) (o : O) (n : ℕ) → Is o → Is (seen_after seen f o n)
-  unfolding seen_after
+  stays : (f : ℕ → Shown) (o : O) (n : ℕ) → Is o → Is (observer_after seen f o n)
+  unfolding observer_after
   stays f o zero is = is
-  stays f o (suc n) is = (step (seen_after seen f o n) (f n) (stays f o n is)).0
+  stays f o (suc n) is = (step (observer_after seen f o n) (f n) (stays f o n is)).0
 
-  pub none-alarmed : (f : ℕ → Shown) (o : O) (n : ℕ) → Is o → is_alarmed (seen_after seen f o n) ≡ false → (k : ℕ) → k < n → alarms (f k) ≡ false
-  unfolding seen_after
+  pub none-alarmed : (f : ℕ → Shown) (o : O) (n : ℕ) → Is o → is_alarmed (observer_after seen f o n) ≡ false → (k : ℕ) → k < n → alarms (f k) ≡ false
+  unfolding observer_after
   none-alarmed f o zero is not k l = absurd (omega (arith, l))
   none-alarmed f o (suc n) is not k l =
-      let parts = both_false (is_alarmed (seen_after seen f o n)) (alarms (f n)) (sym (step (seen_after seen f o n) (f n) (stays f o n is)).1 ∙ not) in
+      let parts = both_false (is_alarmed (observer_after seen f o n)) (alarms (f n)) (sym (step (observer_after seen f o n) (f n) (stays f o n is)).1 ∙ not) in
       go (none-alarmed f o n is parts.0) parts.1 (split k l)
     where
       split : (k : ℕ) → k < suc n → (k < n) ⊎ (k ≡ n)
@@ -159,7 +159,7 @@ module _ {L : Type 0} (alarms_by : L → Shown → Bool) where
   abbrev pub watched : Watcher L → Shown → Watcher L
   watched watcher shown = record watcher { is_alarmed = watcher.is_alarmed || alarms_by watcher.lookout.now shown }
 
-  pub none-watched : (f : ℕ → Shown) (before after : Watcher L) (n : ℕ) → after ≡ seen_after watched f before n → after.is_alarmed ≡ false
+  pub none-watched : (f : ℕ → Shown) (before after : Watcher L) (n : ℕ) → after ≡ observer_after watched f before n → after.is_alarmed ≡ false
       → (k : ℕ) → k < n → alarms_by before.lookout.now (f k) ≡ false
   none-watched f before after n is not =
       none-alarmed watched (λ o. o.is_alarmed) (alarms_by before.lookout.now) (λ o. o.lookout.now ≡ before.lookout.now)
@@ -167,7 +167,7 @@ module _ {L : Type 0} (alarms_by : L → Shown → Bool) where
       (sym (ap (λ (o : Watcher L). o.is_alarmed) is) ∙ not)
 
 -- If no step raises an alarm, nothing is seen.
-pub unseen : (seen : World → Bool) (alarms : Shown → Bool) (course : Course) (start from to : ℕ) → Warns seen alarms course start → start ≤ from
+pub unseen : (seen : World → Bool) (alarms : Shown → Bool) (course : Course) (start from to : ℕ) → AlarmsAreComplete seen alarms course start → start ≤ from
     → ((k : ℕ) → start < k → k ≤ from → seen (world_on course k) ≡ false) → NoneStuck course to
     → ((k : ℕ) → k < to - from → alarms (shown_on course (from + k)) ≡ false) → (k : ℕ) → start < k → k ≤ to → seen (world_on course k) ≡ false
 unseen seen alarms course start from to warns high before went calm zero l m = absurd (omega (arith, l))
@@ -195,8 +195,8 @@ unseen seen alarms course start from to warns high before went calm (suc k) l m 
     go earlier (inr a) = told earlier a (seen (world_on course (k + 1))) refl
 
 -- steps that were run one by one up to a position within an end
-pub gone-further : (seen : World → Bool) (course : Course) (from to end here : ℕ) (halt : Halt) → to ≤ end → IsGone seen course from to here (Some halt)
-    → IsGone seen course from end here (Some halt)
+pub gone-further : (seen : World → Bool) (course : Course) (from to end here : ℕ) (halt : Halt) → to ≤ end → HasRunTo seen course from to here (Some halt)
+    → HasRunTo seen course from end here (Some halt)
 gone-further seen course from to end here Seen low gone =
     record { ahead = gone.ahead; within = omega (arith, gone.within, low); passed = gone.passed; why_is = gone.why_is }
 gone-further seen course from to end here (Stopped cause) low gone =
@@ -204,7 +204,7 @@ gone-further seen course from to end here (Stopped cause) low gone =
 
 -- the same, with nothing seen after them
 pub gone-unseen : (seen : World → Bool) (course : Course) (start from to here : ℕ)
-    → ((k : ℕ) → start < k → k ≤ from → seen (world_on course k) ≡ false) → IsGone seen course from to here None
+    → ((k : ℕ) → start < k → k ≤ from → seen (world_on course k) ≡ false) → HasRunTo seen course from to here None
     → (k : ℕ) → start < k → k ≤ here → seen (world_on course k) ≡ false
 gone-unseen seen course start from to here before gone k l m = go (split k)
   where
@@ -220,7 +220,7 @@ gone-unseen seen course start from to here before gone k l m = go (split k)
 
 -- moving on from a position, up to which nothing was seen
 pub gone-on : (seen : World → Bool) (course : Course) (start from end to : ℕ) (why : Option Halt) → start ≤ from
-    → ((k : ℕ) → start < k → k ≤ from → seen (world_on course k) ≡ false) → IsGone seen course from end to why → IsGone seen course start end to why
+    → ((k : ℕ) → start < k → k ≤ from → seen (world_on course k) ≡ false) → HasRunTo seen course from end to why → HasRunTo seen course start end to why
 gone-on seen course start from end to why high before gone =
     record { ahead = omega (arith, high, gone.ahead); within = gone.within; passed = λ k l m. below k l m (split k); why_is = told why gone.why_is }
   where
@@ -232,11 +232,11 @@ gone-on seen course start from end to why high before gone =
     below k l m (inr a) = gone.passed k a m
 
     last : (from < to → seen (world_on course to) ≡ false) → (to ≤ from) ⊎ (from < to) → start < to → seen (world_on course to) ≡ false
-    last behind (inl a) l = before to l a
-    last behind (inr a) l = behind a
+    last following (inl a) l = before to l a
+    last following (inr a) l = following a
 
-    told : (why : Option Halt) → Rattle.a2_history.specs.Gone.WhyGone seen course from end to why
-        → Rattle.a2_history.specs.Gone.WhyGone seen course start end to why
+    told : (why : Option Halt) → Rattle.a2_history.specs.Gone.WhyStopped seen course from end to why
+        → Rattle.a2_history.specs.Gone.WhyStopped seen course start end to why
     told None is = (is.0, last is.1 (split to))
     told (Some Seen) is = (omega (arith, high, is.0), is.1)
     told (Some (Stopped cause)) is = (last is.0 (split to), is.1)

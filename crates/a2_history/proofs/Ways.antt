@@ -111,15 +111,15 @@ newest-next seen course from n (Some p) false is l e =
 -- If nothing is seen in a second range, the result for the first range holds for both together.
 pub newest-before : (seen : World → Bool) (course : Course) (from mid end : ℕ) (found : Option ℕ) → from ≤ mid → mid ≤ end → IsNewest seen course from mid found
     → IsNewest seen course mid end None → IsNewest seen course from end found
-newest-before seen course from mid end None l m before behind = λ k a b. go k a b (split k)
+newest-before seen course from mid end None l m before following = λ k a b. go k a b (split k)
   where
     split : (k : ℕ) → (k < mid) ⊎ (mid ≤ k)
     split k = grind arith
 
     go : (k : ℕ) → from ≤ k → k < end → (k < mid) ⊎ (mid ≤ k) → seen (world_on course k) ≡ false
     go k a b (inl c) = before k a c
-    go k a b (inr c) = behind k c b
-newest-before seen course from mid end (Some p) l m before behind =
+    go k a b (inr c) = following k c b
+newest-before seen course from mid end (Some p) l m before following =
     (before.0, omega (arith, before.1, m), before.2, λ k a b. go k a b (split k))
   where
     split : (k : ℕ) → (k < mid) ⊎ (mid ≤ k)
@@ -127,11 +127,11 @@ newest-before seen course from mid end (Some p) l m before behind =
 
     go : (k : ℕ) → p < k → k < end → (k < mid) ⊎ (mid ≤ k) → seen (world_on course k) ≡ false
     go k a b (inl c) = before.3 k a c
-    go k a b (inr c) = behind k c b
+    go k a b (inr c) = following k c b
 
-pub newest-behind : (seen : World → Bool) (course : Course) (low from end p : ℕ) → low ≤ from → IsNewest seen course from end (Some p)
+pub newest-following : (seen : World → Bool) (course : Course) (low from end p : ℕ) → low ≤ from → IsNewest seen course from end (Some p)
     → IsNewest seen course low end (Some p)
-newest-behind seen course low from end p l is = (omega (arith, l, is.0), is.1, is.2, is.3)
+newest-following seen course low from end p l is = (omega (arith, l, is.0), is.1, is.2, is.3)
 
 -- Typing keys at a position changes nothing before it.
 module _ (course : Course) (n : ℕ) (keys : List ℕ) where

@@ -47,8 +47,8 @@ abbrev pub shown_on : Course → ℕ → Shown
 shown_on course n = shown_between (world_on course n) (world_on course (n + 1))
 
 -- each step from a position on after which something is newly seen raises an alarm
-abbrev pub Warns : (World → Bool) → (Shown → Bool) → Course → ℕ → Type 0
-Warns seen alarms course from =
+abbrev pub AlarmsAreComplete : (World → Bool) → (Shown → Bool) → Course → ℕ → Type 0
+AlarmsAreComplete seen alarms course from =
     (k : ℕ) → from ≤ k → NoneStuck course (k + 1) → seen (world_on course (k + 1)) ≡ true → alarms (shown_on course k) ≡ false
     → (from < k) × (seen (world_on course k) ≡ true)
 

@@ -16,15 +16,15 @@ IsCauseAt state cause =
     ⊎ ((stuck (code_of state) (world_of_state state) ≡ None) × (cause ≡ Limit))
 
 -- why the run stopped at a position, if it is not the end
-abbrev pub WhyGone : (World → Bool) → Course → ℕ → ℕ → ℕ → Option Halt → Type 0
-WhyGone seen course from end to None = (to ≡ end) × (from < to → seen (world_on course to) ≡ false)
-WhyGone seen course from end to (Some Seen) = (from < to) × (seen (world_on course to) ≡ true)
-WhyGone seen course from end to (Some (Stopped cause)) =
+abbrev pub WhyStopped : (World → Bool) → Course → ℕ → ℕ → ℕ → Option Halt → Type 0
+WhyStopped seen course from end to None = (to ≡ end) × (from < to → seen (world_on course to) ≡ false)
+WhyStopped seen course from end to (Some Seen) = (from < to) × (seen (world_on course to) ≡ true)
+WhyStopped seen course from end to (Some (Stopped cause)) =
     (from < to → seen (world_on course to) ≡ false) × (stuck (code_of course.origin) (world_on course to) ≡ Some cause)
 
 -- steps were run to a position
-pub record IsGone (seen : World → Bool) (course : Course) (from end to : ℕ) (why : Option Halt) : Type 0 where
+pub record HasRunTo (seen : World → Bool) (course : Course) (from end to : ℕ) (why : Option Halt) : Type 0 where
   pub ahead : from ≤ to
   pub within : to ≤ end
   pub passed : (k : ℕ) → from < k → k < to → seen (world_on course k) ≡ false
-  pub why_is : WhyGone seen course from end to why
+  pub why_is : WhyStopped seen course from end to why

@@ -21,8 +21,8 @@ WithinAFiftieth = (most now width position : ℕ)
     → (checkpoint : ℕ) × IsBefore width now position checkpoint
     × ((position ≤ checkpoint + 1023) ⊎ (50 * (position - checkpoint) ≤ now - position))
 
-abbrev pub NoneIsWantedAgain : Type 0
-NoneIsWantedAgain = (most now width later narrower checkpoint : ℕ)
+abbrev pub DroppedIsNeverNeeded : Type 0
+DroppedIsNeverNeeded = (most now width later narrower checkpoint : ℕ)
     → now ≤ later → IsWidth most now width → IsWidth most later narrower
     → IsKept narrower later checkpoint → IsKept width now checkpoint
 

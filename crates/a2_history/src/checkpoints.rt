@@ -45,15 +45,15 @@ fn stride_at(position: u64) -> u64
 
 // Returns whether a checkpoint is due at a position: a multiple of the stride there, after all that are held.
 fn is_due<A: Allocator>(held: &[Machine<A>], position: u64) -> bool {
-    let is_behind = match held.last() {
+    let is_after = match held.last() {
         Some(newest) => newest.steps() < position,
         None => true,
     };
-    is_behind && position % stride_at(position) == 0
+    is_after && position % stride_at(position) == 0
 }
 
 // Returns the index of the first checkpoint that need not be kept any more.
-fn first_other<A: Allocator>(held: &[Machine<A>], width: u64, now: u64) -> Option<usize>
+fn first_unkept<A: Allocator>(held: &[Machine<A>], width: u64, now: u64) -> Option<usize>
     ensures within { IfSome result (λ index. index < length held.now) }
     ensures other { IfSome result (λ index. (d : Device) → IsKept width now (slice_index_or held.now index d).state.steps → ⊥) }
 {
@@ -66,19 +66,19 @@ fn first_other<A: Allocator>(held: &[Machine<A>], width: u64, now: u64) -> Optio
 }
 
 // Removes one checkpoint that need not be kept any more, if there is one.
-fn take_other<A: Allocator>(
+fn remove_unkept<A: Allocator>(
     held: &mut Vec<Machine<A>, A>,
     width: u64,
     now: u64,
 ) -> Option<Machine<A>>
     ensures { Thins width now held.old.items held.new.items }
 {
-    let index = first_other(held.as_slice(), width, now)?;
+    let index = first_unkept(held.as_slice(), width, now)?;
     Some(held.remove(index))
 }
 
 // Drops the checkpoints that need not be kept any more.
-fn drop_others<A: Allocator>(held: &mut Vec<Machine<A>, A>, width: u64, now: u64)
+fn drop_unkept<A: Allocator>(held: &mut Vec<Machine<A>, A>, width: u64, now: u64)
     ensures thinned { Thins width now held.old.items held.new.items }
     ensures wanted { All (λ d. IsKept width now d.state.steps) held.new.items }
 {
@@ -127,8 +127,8 @@ fn hold<A: Allocator + Copy>(
 {
     let now = machine.steps();
     let width = width_of(most, now);
-    let spare = take_other(held, width, now);
-    drop_others(held, width, now);
+    let spare = remove_unkept(held, width, now);
+    drop_unkept(held, width, now);
     if let Some(copy) = copy_of(alloc, spare, machine) {
         add(held, copy, most);
     }
@@ -176,8 +176,8 @@ impl<A: Allocator> Checkpoints<A> {
         ensures on { IfSome result (λ kept. (course : Course) → AreOn course self.now → IsOn course kept.now.state) }
         ensures before { IfSome result (λ kept. kept.now.state.steps ≤ position) }
     {
-        for behind in 0..self.len() {
-            let kept = self.at(self.len() - 1 - behind);
+        for following in 0..self.len() {
+            let kept = self.at(self.len() - 1 - following);
             if kept.steps() <= position {
                 return Some(kept);
             }

@@ -3,7 +3,7 @@
 ghost use Rattle.std.specs.Prelude.{◌≡◌, ◌+◌, ◌-◌, ◌<◌, ◌≤◌, ◌∷◌, [], None, Some, length, if◌then◌else◌, IfSome, IfNone, IfOk};
 ghost use Rattle.std.specs.Prelude.{IfErr, OnOk, OnErr};
 ghost use Rattle.a2_machine.specs.Meaning.{stuck};
-ghost use Rattle.a2_machine.specs.Looks.{shown_at, seen_after};
+ghost use Rattle.a2_machine.specs.Looks.{shown_at, observer_after};
 ghost use Rattle.a2_machine.specs.State.{world_of_state, code_of};
 ghost use Rattle.a2_history.specs.Courses.{NoneStuck};
 ghost use Rattle.a2_history.specs.Going.{IsNewest, IsOn, shown_on, with_typed};
@@ -12,7 +12,7 @@ ghost use Rattle.a2_history.specs.Typing.{IsTyped, IsTypedBy};
 ghost use Rattle.a2_history.specs.declared.fault.TypingFault.TheVariants.{Full};
 
 use crate::spacing::STRIDE;
-use crate::{Sight, Typed, TypingFault};
+use crate::{SearchTarget, Typed, TypingFault};
 use a2_burst::{NoObserver, Observer};
 use a2_bus::Keys;
 use a2_machine::{Cause, Machine};
@@ -51,7 +51,7 @@ fn type_fitting<A: Allocator>(machine: &mut Machine<A>, keys: &Keys)
 }
 
 // Types keys if they were typed at the machine's position.
-fn type_again<A: Allocator>(machine: &mut Machine<A>, typed: &Typed)
+fn retype<A: Allocator>(machine: &mut Machine<A>, typed: &Typed)
     ensures { IsTypedBy (typed.now ∷ []) machine.old.state machine.new.state }
 {
     if typed.position == machine.steps() {
@@ -64,12 +64,12 @@ fn type_logged<A: Allocator>(machine: &mut Machine<A>, log: &[Typed])
     ensures { IsTypedBy log.now machine.old.state machine.new.state }
 {
     for typed in log {
-        type_again(machine, typed);
+        retype(machine, typed);
     }
 }
 
 // Returns the first position after `from` at which keys of a log were typed, or `end` if that is earlier.
-fn quiet_end(log: &[Typed], from: u64, end: u64) -> u64
+fn next_typed_position(log: &[Typed], from: u64, end: u64) -> u64
     requires { from < end }
     ensures ahead { from < result }
     ensures within { result ≤ end }
@@ -93,7 +93,7 @@ fn burst<A: Allocator, O: Observer>(
     requires some { 0 < most }
     requires few { machine.old.state.steps + most ≤ 100_000_000 }
     ensures made { IfNone result (IsBurst most machine.old machine.new) }
-    ensures seen { observer.new ≡ seen_after O.seen (shown_at (code_of machine.old.state) (world_of_state machine.old.state))
+    ensures seen { observer.new ≡ observer_after O.seen (shown_at (code_of machine.old.state) (world_of_state machine.old.state))
         observer.old (machine.new.state.steps - machine.old.state.steps) }
     ensures stuck { IfSome result (λ cause. stuck (code_of machine.old.state) (world_of_state machine.old.state) ≡ Some cause) }
     ensures kept { IfSome result (λ _. machine.new ≡ machine.old) }
@@ -107,10 +107,10 @@ fn burst<A: Allocator, O: Observer>(
 }
 
 // Returns this position if something is seen there, otherwise what was found so far.
-fn newer(found: Option<u64>, position: u64, is_seen: bool) -> Option<u64>
-    ensures { result ≡ (if is_seen then Some position else found) }
+fn newer(found: Option<u64>, position: u64, is_found_in: bool) -> Option<u64>
+    ensures { result ≡ (if is_found_in then Some position else found) }
 {
-    if is_seen { Some(position) } else { found }
+    if is_found_in { Some(position) } else { found }
 }
 
 impl<A: Allocator + Copy> Course<A> {
@@ -141,7 +141,7 @@ impl<A: Allocator> Course<A> {
     }
 
     /// Executes one step and types the keys that were typed after it, or returns why no step can be executed.
-    pub fn make_step(&self, machine: &mut Machine<A>) -> Option<Cause>
+    pub fn execute_step(&self, machine: &mut Machine<A>) -> Option<Cause>
         requires on { IsOn self.now machine.old.state }
         requires guard { machine.old.state.guard ≡ self.now.origin.guard }
         requires few { machine.old.state.steps < 100_000_000 }
@@ -174,7 +174,7 @@ impl<A: Allocator> Course<A> {
         ensures on { IfNone result (IsOn self.now machine.new.state) }
         ensures ahead { IfNone result (machine.old.state.steps < machine.new.state.steps) }
         ensures within { IfNone result (machine.new.state.steps ≤ end) }
-        ensures seen { IfNone result (observer.new ≡ seen_after O.seen (λ k. shown_on self.now (machine.old.state.steps + k))
+        ensures seen { IfNone result (observer.new ≡ observer_after O.seen (λ k. shown_on self.now (machine.old.state.steps + k))
             observer.old (machine.new.state.steps - machine.old.state.steps)) }
         ensures guard { machine.new.state.guard ≡ machine.old.state.guard }
         ensures stuck { IfSome result (λ cause. stuck (code_of self.now.origin) (world_of_state machine.old.state) ≡ Some cause) }
@@ -182,7 +182,7 @@ impl<A: Allocator> Course<A> {
     {
         let from = machine.steps();
         let edge = (from - from % STRIDE + STRIDE).min(end);
-        let quiet = quiet_end(self.log.as_slice(), from, edge);
+        let quiet = next_typed_position(self.log.as_slice(), from, edge);
         if let Some(cause) = burst(machine, (quiet - from) as u32, observer) {
             return Some(cause);
         }
@@ -211,7 +211,7 @@ impl<A: Allocator> Course<A> {
 
     /// Returns the latest position, from the machine's own up to but not including `end`, at which something is seen.
     /// `end` was reached before.
-    pub fn newest_seen<S: Sight>(
+    pub fn newest_seen<S: SearchTarget>(
         &self,
         machine: &mut Machine<A>,
         end: u64,
@@ -222,14 +222,14 @@ impl<A: Allocator> Course<A> {
         requires ahead { machine.old.state.steps ≤ end }
         requires few { end ≤ 100_000_000 }
         requires went { NoneStuck self.now end }
-        ensures newest { IsNewest (S.is_seen sight.now) self.now machine.old.state.steps end result }
+        ensures newest { IsNewest (S.is_found_in sight.now) self.now machine.old.state.steps end result }
         ensures guard { machine.new.state.guard ≡ machine.old.state.guard }
     {
         let mut found = None;
         for position in machine.steps()..end {
-            found = newer(found, position, sight.is_seen(machine));
+            found = newer(found, position, sight.is_found_in(machine));
             // No world before the end is stuck, so every step is executed.
-            let _ = self.make_step(machine);
+            let _ = self.execute_step(machine);
         }
         found
     }

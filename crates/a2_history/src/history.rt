@@ -3,17 +3,17 @@
 ghost use Rattle.std.specs.Prelude.{◌≡◌, ◌+◌, ◌<◌, ◌≤◌, ℕ, min, [], length, IfOk, IfErr, OnOk, OnErr};
 ghost use Rattle.a2_machine.specs.State.{world_of_state};
 ghost use Rattle.a2_history.specs.Courses.{Course as Seen, NoneStuck, with_keys};
-ghost use Rattle.a2_history.specs.Going.{here, Advances, Warns, IsNewest, IsOn, AreOn, with_typed};
-ghost use Rattle.a2_history.specs.Gone.{IsGone, IsCauseAt};
+ghost use Rattle.a2_history.specs.Going.{here, Advances, AlarmsAreComplete, IsNewest, IsOn, AreOn, with_typed};
+ghost use Rattle.a2_history.specs.Gone.{HasRunTo, IsCauseAt};
 ghost use Rattle.a2_history.specs.Routines.{entered as entered_on, IsNewestOutside};
 ghost use Rattle.a2_history.specs.declared.fault.TypingFault.TheVariants.{Full};
 
 use crate::checkpoints::Checkpoints;
 use crate::course::Course;
 use crate::lookout::Watcher;
-use crate::routines::way_to;
+use crate::routines::routines_up_to;
 use crate::spacing::STRIDE;
-use crate::{Halt, Lookout, Sight, TypingFault};
+use crate::{Halt, Lookout, SearchTarget, TypingFault};
 use a2_bus::Keys;
 use a2_machine::{Cause, Machine};
 use a2_symbols::Entry;
@@ -25,7 +25,7 @@ const HISTORY_MAX_STEPS: u64 = 100_000_000;
 
 /// How far a scout may fall behind, in steps. A copy takes as long as about 250 steps of a run. The steps up to the
 /// start of a burst that raised an alarm are replayed once.
-const MOST_BEHIND: u64 = 8 * STRIDE;
+const MAX_SCOUT_LAG: u64 = 8 * STRIDE;
 
 /// A run and a position in it.
 ///
@@ -99,16 +99,21 @@ impl<A: Allocator + Copy> History<A> {
     /// It returns `Cause::Limit` only if no other cause applies. Keys that were typed in this part of the run are
     /// typed again. The steps are run in bursts, and worlds are examined only if `lookout` raises an alarm. So
     /// `lookout` must raise one at each step after which something is newly seen.
-    pub fn advance<S: Sight, L: Lookout>(&mut self, limit: u32, sight: &S, lookout: &L) -> Halt
-        requires { Warns (S.is_seen sight.now) (L.alarms lookout.now) self.old.course self.old.position }
+    pub fn advance<S: SearchTarget, L: Lookout>(
+        &mut self,
+        limit: u32,
+        sight: &S,
+        lookout: &L,
+    ) -> Halt
+        requires { AlarmsAreComplete (S.is_found_in sight.now) (L.alarms lookout.now) self.old.course self.old.position }
         ensures course { self.new.course ≡ self.old.course }
-        ensures advances { Advances (S.is_seen sight.now) self.old.course self.old.position
+        ensures advances { Advances (S.is_found_in sight.now) self.old.course self.old.position
             (min (self.old.position + limit) 100_000_000)
             self.new.position result }
     {
         let from = self.machine.steps();
         let end = (from + u64::from(limit)).min(HISTORY_MAX_STEPS);
-        let halt = burst_on(
+        let halt = run_in_bursts(
             self.alloc,
             &self.course,
             &mut self.machine,
@@ -134,7 +139,7 @@ fn cause_at<A: Allocator>(machine: &mut Machine<A>) -> Cause
 }
 
 // Runs steps up to an end, or to an earlier world that is seen or stuck, and returns why it stopped there.
-fn go_on<A: Allocator + Copy, S: Sight>(
+fn run_one_by_one<A: Allocator + Copy, S: SearchTarget>(
     alloc: A,
     course: &Course<A>,
     machine: &mut Machine<A>,
@@ -150,14 +155,14 @@ fn go_on<A: Allocator + Copy, S: Sight>(
     ensures on { IsOn course.now machine.new.state }
     ensures guard { machine.new.state.guard ≡ course.now.origin.guard }
     ensures kept { AreOn course.now checkpoints.new }
-    ensures gone { IsGone (S.is_seen sight.now) course.now machine.old.state.steps end machine.new.state.steps result }
+    ensures gone { HasRunTo (S.is_found_in sight.now) course.now machine.old.state.steps end machine.new.state.steps result }
 {
     for _ in machine.steps()..end {
-        if let Some(cause) = course.make_step(machine) {
+        if let Some(cause) = course.execute_step(machine) {
             return Some(Halt::Stopped(cause));
         }
         checkpoints.keep(alloc, machine);
-        if sight.is_seen(machine) {
+        if sight.is_found_in(machine) {
             return Some(Halt::Seen);
         }
     }
@@ -187,7 +192,7 @@ fn put_at<A: Allocator>(
 }
 
 // Puts a machine where another one is.
-fn put_as<A: Allocator>(machine: &mut Machine<A>, other: &Machine<A>)
+fn copy_from_other<A: Allocator>(machine: &mut Machine<A>, other: &Machine<A>)
     ensures on { (course : Seen) → IsOn course other.now.state → IsOn course machine.new.state }
     ensures steps { machine.new.state.steps ≡ other.now.state.steps }
     ensures guard { machine.new.state.guard ≡ machine.old.state.guard }
@@ -199,17 +204,17 @@ fn put_as<A: Allocator>(machine: &mut Machine<A>, other: &Machine<A>)
 fn follow<A: Allocator>(scout: &mut Machine<A>, machine: &Machine<A>)
     requires { scout.old.state.steps ≤ machine.now.state.steps }
     ensures on { (course : Seen) → IsOn course scout.old.state → IsOn course machine.now.state → IsOn course scout.new.state }
-    ensures behind { scout.new.state.steps ≤ machine.now.state.steps }
+    ensures following { scout.new.state.steps ≤ machine.now.state.steps }
     ensures guard { scout.new.state.guard ≡ scout.old.state.guard }
 {
-    if machine.steps() - scout.steps() >= MOST_BEHIND {
-        put_as(scout, machine);
+    if machine.steps() - scout.steps() >= MAX_SCOUT_LAG {
+        copy_from_other(scout, machine);
     }
 }
 
 // Replays the steps from a position to a machine's position one by one. The machine first goes back to where the
 // scout stayed, and runs in bursts from there to the first of these steps.
-fn go_again<A: Allocator + Copy, S: Sight>(
+fn replay_one_by_one<A: Allocator + Copy, S: SearchTarget>(
     alloc: A,
     course: &Course<A>,
     machine: &mut Machine<A>,
@@ -221,23 +226,23 @@ fn go_again<A: Allocator + Copy, S: Sight>(
     requires on { IsOn course.now machine.old.state }
     requires guard { machine.old.state.guard ≡ course.now.origin.guard }
     requires scout { IsOn course.now scout.now.state }
-    requires behind { scout.now.state.steps ≤ from }
+    requires following { scout.now.state.steps ≤ from }
     requires ahead { from ≤ machine.old.state.steps }
     requires kept { AreOn course.now checkpoints.old }
     requires few { machine.old.state.steps ≤ 100_000_000 }
     ensures on { IsOn course.now machine.new.state }
     ensures guard { machine.new.state.guard ≡ course.now.origin.guard }
     ensures kept { AreOn course.now checkpoints.new }
-    ensures gone { IsGone (S.is_seen sight.now) course.now from machine.old.state.steps machine.new.state.steps result }
+    ensures gone { HasRunTo (S.is_found_in sight.now) course.now from machine.old.state.steps machine.new.state.steps result }
 {
     let to = machine.steps();
-    put_as(machine, scout);
+    copy_from_other(machine, scout);
     course.bring(machine, from);
-    go_on(alloc, course, machine, checkpoints, to, sight)
+    run_one_by_one(alloc, course, machine, checkpoints, to, sight)
 }
 
 // Runs up to an end in bursts. If a step of a burst raises an alarm, the burst's steps are replayed one by one.
-fn burst_on<A: Allocator + Copy, S: Sight, L: Lookout>(
+fn run_in_bursts<A: Allocator + Copy, S: SearchTarget, L: Lookout>(
     alloc: A,
     course: &Course<A>,
     machine: &mut Machine<A>,
@@ -252,14 +257,14 @@ fn burst_on<A: Allocator + Copy, S: Sight, L: Lookout>(
     requires kept { AreOn course.now checkpoints.old }
     requires ahead { machine.old.state.steps ≤ end }
     requires few { end ≤ 100_000_000 }
-    requires warns { Warns (S.is_seen sight.now) (L.alarms lookout.now) course.now machine.old.state.steps }
+    requires warns { AlarmsAreComplete (S.is_found_in sight.now) (L.alarms lookout.now) course.now machine.old.state.steps }
     ensures on { IsOn course.now machine.new.state }
     ensures guard { machine.new.state.guard ≡ course.now.origin.guard }
     ensures kept { AreOn course.now checkpoints.new }
-    ensures gone { IsGone (S.is_seen sight.now) course.now machine.old.state.steps end machine.new.state.steps result }
+    ensures gone { HasRunTo (S.is_found_in sight.now) course.now machine.old.state.steps end machine.new.state.steps result }
     ensures scout { scout.new.state.guard ≡ scout.old.state.guard }
 {
-    put_as(scout, machine);
+    copy_from_other(scout, machine);
     let mut from = machine.steps();
     while from < end {
         follow(scout, machine);
@@ -271,7 +276,15 @@ fn burst_on<A: Allocator + Copy, S: Sight, L: Lookout>(
             return Some(Halt::Stopped(cause));
         }
         if watcher.is_alarmed {
-            if let Some(halt) = go_again(alloc, course, machine, scout, checkpoints, from, sight) {
+            if let Some(halt) = replay_one_by_one(
+                alloc,
+                course,
+                machine,
+                scout,
+                checkpoints,
+                from,
+                sight,
+            ) {
                 return Some(halt);
             }
         } else {
@@ -283,7 +296,7 @@ fn burst_on<A: Allocator + Copy, S: Sight, L: Lookout>(
 }
 
 // Returns the latest position, from a machine's own up to but not including an end, at which something is seen.
-fn look_from<A: Allocator, S: Sight>(
+fn search_from<A: Allocator, S: SearchTarget>(
     course: &Course<A>,
     scout: &mut Machine<A>,
     from: &Machine<A>,
@@ -295,7 +308,7 @@ fn look_from<A: Allocator, S: Sight>(
     requires ahead { from.now.state.steps ≤ end }
     requires few { end ≤ 100_000_000 }
     requires went { NoneStuck course.now end }
-    ensures newest { IsNewest (S.is_seen sight.now) course.now from.now.state.steps end result }
+    ensures newest { IsNewest (S.is_found_in sight.now) course.now from.now.state.steps end result }
     ensures guard { scout.new.state.guard ≡ scout.old.state.guard }
 {
     scout.restore(from);
@@ -304,7 +317,7 @@ fn look_from<A: Allocator, S: Sight>(
 
 // Returns the latest position before an end that was reached at which something is seen. It searches from the latest
 // checkpoint on, then from earlier ones, back to the start.
-fn look_back<A: Allocator, S: Sight>(
+fn search_back<A: Allocator, S: SearchTarget>(
     course: &Course<A>,
     scout: &mut Machine<A>,
     checkpoints: &Checkpoints<A>,
@@ -315,14 +328,14 @@ fn look_back<A: Allocator, S: Sight>(
     requires guard { scout.old.state.guard ≡ course.now.origin.guard }
     requires few { end ≤ 100_000_000 }
     requires went { NoneStuck course.now end }
-    ensures newest { IsNewest (S.is_seen sight.now) course.now 0 end result }
+    ensures newest { IsNewest (S.is_found_in sight.now) course.now 0 end result }
     ensures guard { scout.new.state.guard ≡ scout.old.state.guard }
 {
     let mut start = end;
-    for behind in 0..checkpoints.len() {
-        let kept = checkpoints.at(checkpoints.len() - 1 - behind);
+    for following in 0..checkpoints.len() {
+        let kept = checkpoints.at(checkpoints.len() - 1 - following);
         if kept.steps() < start {
-            let found = look_from(course, scout, kept, start, sight);
+            let found = search_from(course, scout, kept, start, sight);
             if found.is_some() {
                 return found;
             }
@@ -369,12 +382,12 @@ impl<A: Allocator> History<A> {
 
     /// Returns the latest position before the current one, and not before the start, at which `sight` is seen, or
     /// `None` if there is none. The position does not change.
-    pub fn newest<S: Sight>(&mut self, sight: &S) -> Option<u64>
-        ensures newest { IsNewest (S.is_seen sight.now) self.old.course 0 self.old.position result }
+    pub fn newest<S: SearchTarget>(&mut self, sight: &S) -> Option<u64>
+        ensures newest { IsNewest (S.is_found_in sight.now) self.old.course 0 self.old.position result }
         ensures kept { self.new ≡ self.old }
     {
         let end = self.machine.steps();
-        look_back(&self.course, &mut self.scout, &self.checkpoints, end, sight)
+        search_back(&self.course, &mut self.scout, &self.checkpoints, end, sight)
     }
 }
 
@@ -404,7 +417,7 @@ impl<A: Allocator + Copy> History<A> {
         ensures kept { self.new ≡ self.old }
     {
         let end = self.machine.steps();
-        let way = way_to(self.alloc, &self.course, &mut self.scout, end, 0)?;
+        let way = routines_up_to(self.alloc, &self.course, &mut self.scout, end, 0)?;
         Ok(way.entries)
     }
 
@@ -417,7 +430,7 @@ impl<A: Allocator + Copy> History<A> {
     {
         let most = self.entered()?.len();
         let end = self.machine.steps();
-        let way = way_to(self.alloc, &self.course, &mut self.scout, end, most)?;
+        let way = routines_up_to(self.alloc, &self.course, &mut self.scout, end, most)?;
         Ok(way.outside)
     }
 }

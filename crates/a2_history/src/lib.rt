@@ -9,7 +9,7 @@ mod fault;
 mod history;
 mod lookout;
 mod routines;
-mod sight;
+mod search_target;
 mod spacing;
 
 use a2_bus::Keys;
@@ -18,10 +18,10 @@ pub use a2_symbols::{Entry, is_call};
 pub use fault::TypingFault;
 pub use history::History;
 pub use lookout::Lookout;
-pub use sight::{Nothing, Sight};
+pub use search_target::{Nothing, SearchTarget};
 pub use spacing::{
-    STRIDE, WIDEST, each_position_has_a_checkpoint_near, is_kept, most_kept, no_more_are_kept,
-    none_is_wanted_again, width_of, within_a_fiftieth,
+    STRIDE, WIDEST, dropped_is_never_needed, each_position_has_a_checkpoint_near, is_kept,
+    most_kept, no_more_are_kept, width_of, within_a_fiftieth,
 };
 
 /// Keys that were typed at a position.

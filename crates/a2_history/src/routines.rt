@@ -11,7 +11,7 @@ use std::alloc::{AllocError, Allocator};
 
 /// What was found on the way through a run.
 #[derive(Drop)]
-pub struct Way<A: Allocator> {
+pub struct RoutinesFound<A: Allocator> {
     /// The routines that were entered and not left, the outermost first.
     pub entries: Vec<Entry, A>,
     /// The latest position with at most the given number of routines.
@@ -20,13 +20,13 @@ pub struct Way<A: Allocator> {
 
 /// Goes through a run from its start to an end that was reached. Returns the routines entered there, and the latest
 /// position before it with at most `most` of them. Fails only if memory is short.
-pub fn way_to<A: Allocator + Copy>(
+pub fn routines_up_to<A: Allocator + Copy>(
     alloc: A,
     course: &Course<A>,
     scout: &mut Machine<A>,
     end: u64,
     most: usize,
-) -> Result<Way<A>, AllocError>
+) -> Result<RoutinesFound<A>, AllocError>
     requires guard { scout.old.state.guard ≡ course.now.origin.guard }
     requires few { end ≤ 100_000_000 }
     requires went { NoneStuck course.now end }
@@ -43,8 +43,8 @@ pub fn way_to<A: Allocator + Copy>(
         }
         enter(&mut entries, scout)?;
         // No world before the end is stuck, so every step is executed.
-        let _ = course.make_step(scout);
+        let _ = course.execute_step(scout);
         leave(&mut entries, scout);
     }
-    Ok(Way { entries, outside })
+    Ok(RoutinesFound { entries, outside })
 }

@@ -12,7 +12,8 @@ ghost use Rattle.a2_history.specs.Places.{IsPlaceKept};
 mod laws;
 
 pub use laws::{
-    each_position_has_a_checkpoint_near, no_more_are_kept, none_is_wanted_again, within_a_fiftieth,
+    dropped_is_never_needed, each_position_has_a_checkpoint_near, no_more_are_kept,
+    within_a_fiftieth,
 };
 
 /// The steps from one checkpoint to the next where they are closest together.

@@ -1,3 +1,3 @@
-pub mod Complaints
+pub mod ErrorLines
 pub mod Desks
 pub mod Shelves

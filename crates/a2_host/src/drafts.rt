@@ -27,15 +27,15 @@ pub trait Desk {
         ensures { Finishes name.now (Self.Draft.taker draft) (files self.old) (files self.new) result };
 
     /// Discards `draft`; all files are unchanged.
-    fn give_up(&mut self, draft: Self::Draft)
+    fn discard_draft(&mut self, draft: Self::Draft)
         ensures { files self.new ≡ files self.old };
 
     /// Returns whether two names belong to the same file, as far as this can be found out.
-    fn are_one(&self, name: &str, other: &str) -> bool;
+    fn are_same_file(&self, name: &str, other: &str) -> bool;
 }
 
 // How many names are tried for a draft.
-const NAMES: u32 = 100;
+const MOST_DRAFT_NAMES: u32 = 100;
 
 /// The files of the operating system.
 #[derive(Drop)]
@@ -77,7 +77,7 @@ impl Output for HostDraft {
 }
 
 // Returns whether something with this name exists that is not a file.
-fn is_no_file(rt: &HostRuntime, name: &str) -> bool {
+fn is_not_a_file(rt: &HostRuntime, name: &str) -> bool {
     match fs::metadata(rt, name) {
         Ok(found) => !found.is_file(),
         Err(_) => false,
@@ -86,7 +86,7 @@ fn is_no_file(rt: &HostRuntime, name: &str) -> bool {
 
 // Creates a new file next to the one with this name, and returns its name and the file.
 fn beside(rt: &HostRuntime, name: &str) -> Result<(String, File), WriteFault> {
-    for number in 0..NAMES {
+    for number in 0..MOST_DRAFT_NAMES {
         let Ok(other) = format!(in rt.alloc(); "{name}.{number}.part") else {
             return Err(WriteFault);
         };
@@ -98,7 +98,7 @@ fn beside(rt: &HostRuntime, name: &str) -> Result<(String, File), WriteFault> {
 }
 
 // Discards the bytes in the buffer; simply dropping the buffer would write them.
-fn let_go(lines: BufWriter<File>) {
+fn discard_buffer(lines: BufWriter<File>) {
     let _ = lines.into_parts();
 }
 
@@ -108,7 +108,7 @@ impl Desk for HostDesk<'_> {
     ghost files = { λ _. None };
 
     fn begin(&mut self, name: &str) -> Result<HostDraft, WriteFault> {
-        if is_no_file(self.rt, name) {
+        if is_not_a_file(self.rt, name) {
             return Err(WriteFault);
         }
         let (name, file) = beside(self.rt, name)?;
@@ -128,7 +128,7 @@ impl Desk for HostDesk<'_> {
     fn finish(&mut self, name: &str, draft: HostDraft) -> Result<(), WriteFault> {
         let mut lines = draft.lines;
         let is_written = lines.flush().is_ok();
-        let_go(lines);
+        discard_buffer(lines);
         if is_written && fs::rename(self.rt, draft.name.as_str(), name).is_ok() {
             return Ok(());
         }
@@ -136,12 +136,12 @@ impl Desk for HostDesk<'_> {
         Err(WriteFault)
     }
 
-    fn give_up(&mut self, draft: HostDraft) {
-        let_go(draft.lines);
+    fn discard_draft(&mut self, draft: HostDraft) {
+        discard_buffer(draft.lines);
         let _ = fs::remove_file(self.rt, draft.name.as_str());
     }
 
-    fn are_one(&self, name: &str, other: &str) -> bool {
+    fn are_same_file(&self, name: &str, other: &str) -> bool {
         match (fs::metadata(self.rt, name), fs::metadata(self.rt, other)) {
             (Ok(one), Ok(two)) => one.dev() == two.dev() && one.ino() == two.ino(),
             _ => false,

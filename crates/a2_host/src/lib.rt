@@ -4,8 +4,8 @@
 #![tactic(auto)]
 
 ghost use Rattle.std.specs.Prelude.{◌≡◌, ◌++◌, IfSome, None, codes};
-ghost use Rattle.a2_host.specs.Complaints.{TellsLine};
-ghost use Rattle.a2_host.specs.Shelves.{Opens, Shelved};
+ghost use Rattle.a2_host.specs.ErrorLines.{ReportsLine};
+ghost use Rattle.a2_host.specs.Shelves.{Opens, ShelfState};
 
 mod drafts;
 
@@ -22,7 +22,7 @@ pub trait Shelf {
 
     /// The contents that each name opens, if they are known, and how many calls of `open` were executed and how many
     /// failed. Each count stays at 2^64 - 1.
-    ghost shelved: { Self → Shelved };
+    ghost shelved: { Self → ShelfState };
 
     /// Opens the file `name` for reading from its first byte. Fails if it cannot be opened.
     fn open(&mut self, name: &str) -> Result<Self::Reader, ReadFault>
@@ -69,32 +69,32 @@ impl Shelf for HostFiles<'_> {
 
 /// Why the arguments of the command line could not be read.
 #[derive(Clone, Copy, Debug, PartialEq, Eq)]
-pub enum HostWordsFault {
+pub enum HostArgumentsFault {
     /// An argument is not valid text.
     NotText,
     /// Memory ran out.
     Memory,
 }
 
-impl From<AllocError> for HostWordsFault {
-    ghost use Rattle.a2_host.specs.declared.HostWordsFault.TheVariants.{Memory};
+impl From<AllocError> for HostArgumentsFault {
+    ghost use Rattle.a2_host.specs.declared.HostArgumentsFault.TheVariants.{Memory};
 
     ghost from_gives = { λ _ e. e ≡ Memory };
 
-    fn from(_error: AllocError) -> HostWordsFault {
-        HostWordsFault::Memory
+    fn from(_error: AllocError) -> HostArgumentsFault {
+        HostArgumentsFault::Memory
     }
 }
 
 /// Returns the arguments of the command line, the program's name first. Fails if an argument is not valid text, or if
 /// memory runs out.
-pub fn words_of(rt: &HostRuntime) -> Result<Vec<String>, HostWordsFault> {
+pub fn arguments_of(rt: &HostRuntime) -> Result<Vec<String>, HostArgumentsFault> {
     match env::args(rt) {
         Ok(words) => Ok(words.collect(rt.alloc())?),
         Err(error) if matches!(error.kind(), io::ErrorKind::OutOfMemory) => {
-            Err(HostWordsFault::Memory)
+            Err(HostArgumentsFault::Memory)
         }
-        Err(_) => Err(HostWordsFault::NotText),
+        Err(_) => Err(HostArgumentsFault::NotText),
     }
 }
 
@@ -110,8 +110,8 @@ fn line_of(text: &str) -> Option<ArrayString<64>>
 
 /// Writes `text` and LF to `complaints`. If the text has at most 63 bytes, this is one write, unless the writer takes
 /// less at a time. If a write fails, only a front of the line was sent, and the failure is not reported.
-pub fn tell<E: Output>(text: &str, complaints: &mut E)
-    ensures { TellsLine (E.taker complaints.old) (E.taker complaints.new) text.now }
+pub fn report<E: Output>(text: &str, complaints: &mut E)
+    ensures { ReportsLine (E.taker complaints.old) (E.taker complaints.new) text.now }
 {
     let _ = match line_of(text) {
         Some(line) => put(line.as_str().as_bytes(), complaints),

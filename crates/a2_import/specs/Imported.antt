@@ -16,8 +16,8 @@ AssemblesTo bytes text =
     × ((a : ℕ) → a < ram_end → held program.image a ≡ bytes a)
 
 -- a text is a source that assembles to the bytes of a listing
-abbrev pub SaysListing : List ℕ → List ℕ → Type 0
-SaysListing listing text = (bytes : ℕ → Option ℕ) × (listed listing ≡ Ok bytes) × AssemblesTo bytes text
+abbrev pub AssemblesToListing : List ℕ → List ℕ → Type 0
+AssemblesToListing listing text = (bytes : ℕ → Option ℕ) × (listed listing ≡ Ok bytes) × AssemblesTo bytes text
 
 -- why a listing cannot be imported: a line has no bytes; for the other errors nothing is promised
 abbrev pub IsListingFault : List ℕ → ListingFault → Type 0

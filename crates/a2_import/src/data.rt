@@ -72,15 +72,15 @@ impl<'a, A: Allocator + Copy> Reading<'a, A> {
         let mut last = None;
         let mut rest = operand;
         while !rest.is_empty() {
-            let (text, behind) = rest.split_at(span(self.dialect, rest, b","));
+            let (text, following) = rest.split_at(span(self.dialect, rest, b","));
             let text = text.trim_ascii();
             let item = item_of(list, self.dialect, text);
             self.put_before(last, item)?;
             self.put_item(item, list, text)?;
             last = Some(item);
-            rest = match behind {
+            rest = match following {
                 [_, others @ ..] => others,
-                [] => behind,
+                [] => following,
             };
         }
         Ok(())
@@ -124,11 +124,14 @@ impl<'a, A: Allocator + Copy> Reading<'a, A> {
     pub(crate) fn put_text(&mut self, operand: &[u8]) -> Result<(), AllocError> {
         let found = text_in(operand);
         self.put_characters(self.is_high(&found), found.text)?;
-        let behind = found.behind.strip_prefix(b",").unwrap_or(found.behind);
-        if behind.is_empty() {
+        let following = found
+            .following
+            .strip_prefix(b",")
+            .unwrap_or(found.following);
+        if following.is_empty() {
             return Ok(());
         }
-        self.put_hex(behind)
+        self.put_hex(following)
     }
 
     /// Appends lines with a text whose last byte has bit 7 inverted.

@@ -5,7 +5,7 @@ ghost use Rattle.a2_import.specs.Imported.{IsSomeSource};
 
 use crate::dialect::Dialect;
 use crate::fault::ImportFault;
-use crate::print::{behind_number, behind_print, column_of, is_bytes};
+use crate::print::{after_line_number, after_printed, column_of, is_bytes};
 use crate::reading::Reading;
 use a2_syntax::{Fault, parse};
 use a2_text::cut;
@@ -48,11 +48,11 @@ impl<A: Allocator> Drop for Imported<A> {
 fn source_in(dialect: Dialect, column: Option<usize>, line: &[u8]) -> Option<&[u8]> {
     match column {
         Some(column) => {
-            behind_print(line)?;
+            after_printed(line)?;
             let (_, source) = line.split_at(column.min(line.len()));
             Some(source)
         }
-        None if dialect == Dialect::Sc => Some(behind_number(line).unwrap_or(line)),
+        None if dialect == Dialect::Sc => Some(after_line_number(line).unwrap_or(line)),
         None => Some(line),
     }
 }
@@ -65,7 +65,7 @@ impl<'a, A: Allocator + Copy> Reading<'a, A> {
     }
 
     /// Appends a line as a comment.
-    pub(crate) fn put_aside(&mut self, line: &[u8]) -> Result<(), AllocError> {
+    pub(crate) fn put_as_comment(&mut self, line: &[u8]) -> Result<(), AllocError> {
         self.put(&[b"; ", line.trim_ascii(), b"\n"])
     }
 
@@ -92,12 +92,12 @@ impl<'a, A: Allocator + Copy> Reading<'a, A> {
             return Ok(());
         }
         self.note(number, NoteKind::Unknown)?;
-        self.put_aside(line)
+        self.put_as_comment(line)
     }
 }
 
 // The result of importing these lines.
-fn made_of<A: Allocator + Copy>(
+fn imported_from<A: Allocator + Copy>(
     alloc: A,
     dialect: Dialect,
     lines: &[&[u8]],
@@ -124,7 +124,7 @@ pub fn import_source<A: Allocator + Copy>(
     ensures { IfOk result (λ made. IsSomeSource made.text.items) }
 {
     let lines = cut(alloc, text)?;
-    let made = made_of(alloc, dialect, lines.as_slice())?;
+    let made = imported_from(alloc, dialect, lines.as_slice())?;
     match parse(alloc, made.text.as_slice()) {
         Ok(_) => Ok(made),
         Err(Fault::Memory) => Err(ImportFault::Memory),

@@ -1,20 +1,20 @@
 //! Detecting the kind of an old text.
 
 use crate::dialect::{Dialect, Old};
-use crate::print::{behind_print, is_row};
-use crate::rules::told_by;
+use crate::print::{after_printed, is_row};
+use crate::rules::dialect_of_word;
 use a2_text::{cut, first_word, split_word};
 use std::alloc::{AllocError, Allocator};
 
 // The assembler to which one of the first two words of a line belongs.
-fn told_by_line(line: &[u8]) -> Option<Dialect> {
-    let source = behind_print(line).unwrap_or(line);
+fn dialect_of_line(line: &[u8]) -> Option<Dialect> {
+    let source = after_printed(line).unwrap_or(line);
     if source.starts_with(b"*") || source.starts_with(b";") {
         return None;
     }
     let (word, rest) = split_word(source);
     let (next, _) = split_word(rest);
-    told_by(word).or(told_by(next))
+    dialect_of_word(word).or(dialect_of_word(next))
 }
 
 // Whether the first line that is not blank belongs to a listing of the Monitor.
@@ -28,12 +28,12 @@ fn is_listing(lines: &[&[u8]]) -> bool {
 }
 
 // The kind of a text with these lines.
-fn told_by_lines(lines: &[&[u8]]) -> Old {
+fn kind_of_lines(lines: &[&[u8]]) -> Old {
     if is_listing(lines) {
         return Old::Listing;
     }
     for line in lines {
-        if let Some(dialect) = told_by_line(line) {
+        if let Some(dialect) = dialect_of_line(line) {
             return Old::Source(dialect);
         }
     }
@@ -45,5 +45,5 @@ fn told_by_lines(lines: &[&[u8]]) -> Old {
 /// memory runs out.
 pub fn guess<A: Allocator>(alloc: A, text: &[u8]) -> Result<Old, AllocError> {
     let lines = cut(alloc, text)?;
-    Ok(told_by_lines(lines.as_slice()))
+    Ok(kind_of_lines(lines.as_slice()))
 }

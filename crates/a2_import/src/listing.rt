@@ -2,7 +2,7 @@
 
 ghost use Rattle.std.specs.Prelude.{◌≡◌, true, IfOk, IfErr};
 ghost use Rattle.a2_hex.specs.Images.{held};
-ghost use Rattle.a2_import.specs.Imported.{AssemblesTo, SaysListing, IsListingFault};
+ghost use Rattle.a2_import.specs.Imported.{AssemblesTo, AssemblesToListing, IsListingFault};
 
 use crate::fault::ListingFault;
 use crate::object::object_lines;
@@ -18,9 +18,9 @@ use std::alloc::{AllocError, Allocator};
 fn bytes_of<A: Allocator>(alloc: A, text: &[u8]) -> Result<Vec<u8, A>, AllocError> {
     let mut bytes = Vec::new(alloc);
     let mut rest = text;
-    while let Some((byte, behind)) = first_byte(rest) {
+    while let Some((byte, following)) = first_byte(rest) {
         bytes.push(byte)?;
-        rest = behind;
+        rest = following;
     }
     Ok(bytes)
 }
@@ -89,7 +89,7 @@ pub fn import_listing<A: Allocator + Copy>(
     alloc: A,
     text: &[u8],
 ) -> Result<Vec<u8, A>, ListingFault>
-    ensures same { IfOk result (λ source. SaysListing text.now source.items) }
+    ensures same { IfOk result (λ source. AssemblesToListing text.now source.items) }
     ensures refused { IfErr result (λ fault. IsListingFault text.now fault) }
 {
     let object = object_lines(alloc, text)?;

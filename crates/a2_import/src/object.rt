@@ -25,13 +25,13 @@ fn put_bytes<A: Allocator>(object: &mut Vec<u8, A>, text: &[u8]) -> Result<(), A
     ensures { IfOk result (λ _. object.new.items ≡ object.old.items ++ listing.up_to_operation (words text.now)) }
 {
     let mut rest = text;
-    while let Some((word, behind)) = first_word(rest) {
+    while let Some((word, following)) = first_word(rest) {
         if word.len() == OPERATION {
             return Ok(());
         }
         object.push(b' ')?;
         object.extend_from_slice(word)?;
-        rest = behind;
+        rest = following;
     }
     Ok(())
 }

@@ -46,9 +46,9 @@ impl<'a, A: Allocator + Copy> Reading<'a, A> {
     /// Appends an expression, token by token.
     pub(crate) fn put_tokens(&mut self, text: &[u8]) -> Result<(), AllocError> {
         let mut rest = text;
-        while let Some((found, behind)) = first_token(self.dialect, rest) {
+        while let Some((found, following)) = first_token(self.dialect, rest) {
             self.put_token(found)?;
-            rest = behind;
+            rest = following;
         }
         Ok(())
     }

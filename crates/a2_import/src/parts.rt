@@ -4,10 +4,10 @@ ghost use Rattle.std.specs.Prelude.{◌≤◌, length};
 
 use crate::dialect::Dialect;
 use crate::pieces::before;
-use crate::rules::{Turn, turn_of};
+use crate::rules::{OperationTranslation, translation_of};
 use crate::token::span;
 use a2_opcode::{Mnemonic, Mode, row_for};
-use a2_text::{behind_blanks, split_word};
+use a2_text::{after_blanks, split_word};
 
 /// The parts of a line; a part that is missing is empty.
 #[derive(Clone, Copy)]
@@ -16,7 +16,7 @@ pub(crate) struct Parts<'a> {
     pub label: &'a [u8],
     pub operation: &'a [u8],
     /// What the operation becomes here, if it is known.
-    pub turn: Option<Turn>,
+    pub turn: Option<OperationTranslation>,
     pub operand: &'a [u8],
     /// The comment, with the `;` before it if it has one.
     pub comment: &'a [u8],
@@ -25,7 +25,7 @@ pub(crate) struct Parts<'a> {
 impl<'a> Parts<'a> {
     /// Returns whether the operation defines the name before it.
     pub(crate) fn is_equate(self) -> bool {
-        matches!(self.turn, Some(Turn::As(name)) if name == b"EQU".as_slice())
+        matches!(self.turn, Some(OperationTranslation::As(name)) if name == b"EQU".as_slice())
     }
 }
 
@@ -46,12 +46,12 @@ pub(crate) struct Marked<'a> {
     pub minus: bool,
     pub mark: u8,
     pub text: &'a [u8],
-    pub behind: &'a [u8],
+    pub following: &'a [u8],
 }
 
 /// Returns the delimited text at the beginning of an operand, or an empty text without a delimiter.
 pub(crate) fn text_in(operand: &[u8]) -> Marked<'_>
-    ensures { length result.behind.now ≤ length operand.now }
+    ensures { length result.following.now ≤ length operand.now }
 {
     let rest = operand.strip_prefix(b"-").unwrap_or(operand);
     let minus = rest.len() < operand.len();
@@ -60,15 +60,15 @@ pub(crate) fn text_in(operand: &[u8]) -> Marked<'_>
             minus,
             mark: 0,
             text: rest,
-            behind: rest,
+            following: rest,
         };
     };
-    let (text, behind) = before(inner, &[*mark]);
+    let (text, following) = before(inner, &[*mark]);
     Marked {
         minus,
         mark: *mark,
         text,
-        behind: behind.get(1..).unwrap_or(behind),
+        following: following.get(1..).unwrap_or(following),
     }
 }
 
@@ -76,7 +76,7 @@ pub(crate) fn text_in(operand: &[u8]) -> Marked<'_>
 fn text_len(there: &[u8]) -> usize
     ensures { result ≤ length there.now }
 {
-    let (_, rest) = before(text_in(there).behind, WORD_ENDS);
+    let (_, rest) = before(text_in(there).following, WORD_ENDS);
     there.len().saturating_sub(rest.len())
 }
 
@@ -88,11 +88,15 @@ fn is_comment(dialect: Dialect, operation: &[u8], gap: usize, there: &[u8]) -> b
 }
 
 // The length of the operand of an operation.
-fn operand_len(dialect: Dialect, turn: Option<Turn>, there: &[u8]) -> usize
+fn operand_len(dialect: Dialect, turn: Option<OperationTranslation>, there: &[u8]) -> usize
     ensures { result ≤ length there.now }
 {
     match turn {
-        Some(Turn::Text | Turn::Counted | Turn::LastTurned) => text_len(there),
+        Some(
+            OperationTranslation::Text
+            | OperationTranslation::Counted
+            | OperationTranslation::LastTurned,
+        ) => text_len(there),
         _ => span(dialect, there, WORD_ENDS),
     }
 }
@@ -100,10 +104,10 @@ fn operand_len(dialect: Dialect, turn: Option<Turn>, there: &[u8]) -> usize
 // The parts of a line in a dialect in which labels begin in column 1 and operands end before a blank.
 fn in_columns(dialect: Dialect, line: &[u8]) -> Parts<'_> {
     let (label, rest) = before(line, WORD_ENDS);
-    let (operation, rest) = before(behind_blanks(rest), WORD_ENDS);
-    let there = behind_blanks(rest);
+    let (operation, rest) = before(after_blanks(rest), WORD_ENDS);
+    let there = after_blanks(rest);
     let gap = rest.len().saturating_sub(there.len());
-    let turn = turn_of(dialect, operation);
+    let turn = translation_of(dialect, operation);
     let len = if is_comment(dialect, operation, gap, there) {
         0
     } else {
@@ -128,17 +132,17 @@ fn is_equals(word: &[u8]) -> bool {
 fn with_colons(line: &[u8]) -> Parts<'_> {
     let (code, comment) = line.split_at(span(Dialect::Ca65, line, b";"));
     let (word, rest) = split_word(code);
-    let (next, behind) = split_word(rest);
+    let (next, following) = split_word(rest);
     let (label, operation, operand): (&[u8], &[u8], &[u8]) = match word {
-        [b':'] => (word, next, behind),
-        [label @ .., b':'] => (label, next, behind),
-        _ if is_equals(next) => (word, next, behind),
+        [b':'] => (word, next, following),
+        [label @ .., b':'] => (label, next, following),
+        _ if is_equals(next) => (word, next, following),
         _ => (b"", word, rest),
     };
     Parts {
         label,
         operation,
-        turn: turn_of(Dialect::Ca65, operation),
+        turn: translation_of(Dialect::Ca65, operation),
         operand: operand.trim_ascii(),
         comment: comment.trim_ascii(),
     }

@@ -2,7 +2,7 @@
 
 ghost use Rattle.std.specs.Prelude.{◌≤◌, length};
 
-use a2_text::{behind_blanks, first_word, front_len, is_blank, number_in};
+use a2_text::{after_blanks, first_word, front_len, is_blank, number_in};
 
 // The greatest number of bytes printed before a line.
 const BYTES: usize = 3;
@@ -16,7 +16,7 @@ fn ends(text: &[u8]) -> bool {
 }
 
 // The text after a byte of two hexadecimal digits.
-fn behind_byte(text: &[u8]) -> Option<&[u8]> {
+fn after_printed_byte(text: &[u8]) -> Option<&[u8]> {
     match text {
         [a, b, rest @ ..] if a.is_ascii_hexdigit() && b.is_ascii_hexdigit() && ends(rest) => Some(
             rest,
@@ -39,14 +39,14 @@ fn address(word: &[u8]) -> Option<bool> {
 }
 
 /// Returns the text after the address at the beginning of a line and the bytes that follow it.
-pub(crate) fn behind_bytes(line: &[u8]) -> Option<&[u8]> {
-    let (word, behind) = first_word(line)?;
+pub(crate) fn after_printed_bytes(line: &[u8]) -> Option<&[u8]> {
+    let (word, following) = first_word(line)?;
     let is_marked = address(word)?;
-    let mut rest = behind;
-    let mut next = behind_blanks(behind);
+    let mut rest = following;
+    let mut next = after_blanks(following);
     let mut is_printed = is_marked;
     for _ in 0..BYTES {
-        let Some(other) = behind_byte(next) else {
+        let Some(other) = after_printed_byte(next) else {
             break;
         };
         is_printed = true;
@@ -60,8 +60,8 @@ pub(crate) fn behind_bytes(line: &[u8]) -> Option<&[u8]> {
 }
 
 /// Returns the text after the line number at the beginning of a line and one blank.
-pub(crate) fn behind_number(line: &[u8]) -> Option<&[u8]> {
-    let here = behind_blanks(line);
+pub(crate) fn after_line_number(line: &[u8]) -> Option<&[u8]> {
+    let here = after_blanks(line);
     let (digits, rest) = here.split_at(front_len(here, |c| c.is_ascii_digit()));
     if digits.is_empty() || !ends(rest) {
         return None;
@@ -73,16 +73,16 @@ pub(crate) fn behind_number(line: &[u8]) -> Option<&[u8]> {
 }
 
 /// Returns the text after what is printed before a line: a line number, or an address, bytes and a line number.
-pub(crate) fn behind_print(line: &[u8]) -> Option<&[u8]> {
-    match behind_bytes(line) {
-        Some(rest) => behind_number(rest),
-        None => behind_number(line),
+pub(crate) fn after_printed(line: &[u8]) -> Option<&[u8]> {
+    match after_printed_bytes(line) {
+        Some(rest) => after_line_number(rest),
+        None => after_line_number(line),
     }
 }
 
 // The column where the source of a printed line begins, if it has any.
 fn column_in(line: &[u8]) -> Option<usize> {
-    let source = behind_blanks(behind_print(line)?);
+    let source = after_blanks(after_printed(line)?);
     if source.is_empty() {
         return None;
     }
@@ -92,8 +92,8 @@ fn column_in(line: &[u8]) -> Option<usize> {
 // Whether an address, bytes and a line number come before at least one of the lines.
 fn are_printed(lines: &[&[u8]]) -> bool {
     for line in lines {
-        if let Some(rest) = behind_bytes(line) {
-            if behind_number(rest).is_some() {
+        if let Some(rest) = after_printed_bytes(line) {
+            if after_line_number(rest).is_some() {
                 return true;
             }
         }
@@ -118,7 +118,7 @@ pub(crate) fn column_of(lines: &[&[u8]]) -> Option<usize> {
 
 /// Returns whether a line has only an address and bytes.
 pub(crate) fn is_bytes(line: &[u8]) -> bool {
-    match behind_bytes(line) {
+    match after_printed_bytes(line) {
         Some(rest) => rest.trim_ascii().is_empty(),
         None => false,
     }
@@ -126,8 +126,8 @@ pub(crate) fn is_bytes(line: &[u8]) -> bool {
 
 /// Returns whether a line belongs to a listing of the Monitor.
 pub(crate) fn is_row(line: &[u8]) -> bool {
-    match (first_word(line), behind_bytes(line)) {
-        (Some((word, _)), Some(rest)) => word.ends_with(b"-") && behind_number(rest).is_none(),
+    match (first_word(line), after_printed_bytes(line)) {
+        (Some((word, _)), Some(rest)) => word.ends_with(b"-") && after_line_number(rest).is_none(),
         _ => false,
     }
 }

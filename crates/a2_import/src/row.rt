@@ -57,7 +57,7 @@ fn is_long(instr: Instr) -> bool {
 }
 
 // The address this many bytes further on.
-fn address_behind(address: u16, count: usize) -> Option<u16> {
+fn address_after(address: u16, count: usize) -> Option<u16> {
     let count = u16::try_from(count).ok()?;
     address.checked_add(count)
 }
@@ -149,7 +149,7 @@ impl<A: Allocator + Copy> Draft<A> {
             self.put_origin(number, address)?;
         }
         self.put_row(number, bytes, address)?;
-        Ok(address_behind(address, bytes.len()))
+        Ok(address_after(address, bytes.len()))
     }
 
     /// Appends the lines that define the names. A name that is defined after its use always takes two bytes.

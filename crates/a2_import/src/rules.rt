@@ -20,7 +20,7 @@ pub(crate) enum List {
 
 /// The translation of an operation.
 #[derive(Clone, Copy)]
-pub(crate) enum Turn {
+pub(crate) enum OperationTranslation {
     /// This operation, with the same operand.
     As(&'static [u8]),
     List(List),
@@ -44,72 +44,81 @@ pub(crate) enum Turn {
 type Row<T> = (&'static [u8], T);
 
 // The operations that all assemblers have.
-static ALIKE: [Row<Turn>; 3] = [
-    (b"ORG", Turn::As(b"ORG")),
-    (b"EQU", Turn::As(b"EQU")),
-    (b"DS", Turn::As(b"DS")),
+static COMMON: [Row<OperationTranslation>; 3] = [
+    (b"ORG", OperationTranslation::As(b"ORG")),
+    (b"EQU", OperationTranslation::As(b"EQU")),
+    (b"DS", OperationTranslation::As(b"DS")),
 ];
 
 // The operations that LISA and Merlin share. S-C also has the first two, and EDASM the next two.
-static SHARED: [Row<Turn>; 6] = [
-    (b"BLT", Turn::As(b"BCC")),
-    (b"BGE", Turn::As(b"BCS")),
-    (b"ASC", Turn::Text),
-    (b"DCI", Turn::LastTurned),
-    (b"STR", Turn::Counted),
-    (b"HEX", Turn::Hex),
+static SHARED: [Row<OperationTranslation>; 6] = [
+    (b"BLT", OperationTranslation::As(b"BCC")),
+    (b"BGE", OperationTranslation::As(b"BCS")),
+    (b"ASC", OperationTranslation::Text),
+    (b"DCI", OperationTranslation::LastTurned),
+    (b"STR", OperationTranslation::Counted),
+    (b"HEX", OperationTranslation::Hex),
 ];
 
-static SC: [Row<Turn>; 8] = [
-    (b".OR", Turn::As(b"ORG")),
-    (b".EQ", Turn::As(b"EQU")),
-    (b".DA", Turn::List(List::Marked)),
-    (b".AS", Turn::Text),
-    (b".AT", Turn::LastTurned),
-    (b".HS", Turn::Hex),
-    (b".BS", Turn::As(b"DS")),
-    (b".TF .TA .EN .LI .LIST .TI .TITLE .PG", Turn::Nothing),
-];
-
-static LISA: [Row<Turn>; 9] = [
-    (b"EPZ =", Turn::As(b"EQU")),
-    (b"BYT", Turn::List(List::Low)),
-    (b"HBY", Turn::List(List::High)),
-    (b"ADR", Turn::List(List::Words)),
-    (b"DFS", Turn::As(b"DS")),
-    (b"OBJ END LST NLS TTL PAG PAU DCM", Turn::Nothing),
-    (b"BTR", Turn::As(b"BNE")),
-    (b"BFL", Turn::As(b"BEQ")),
-    (b"XOR", Turn::As(b"EOR")),
-];
-
-static MERLIN: [Row<Turn>; 4] = [
-    (b"DFB DB", Turn::List(List::Bytes)),
-    (b"=", Turn::As(b"EQU")),
-    (b"DA DW", Turn::List(List::Words)),
+static SC: [Row<OperationTranslation>; 8] = [
+    (b".OR", OperationTranslation::As(b"ORG")),
+    (b".EQ", OperationTranslation::As(b"EQU")),
+    (b".DA", OperationTranslation::List(List::Marked)),
+    (b".AS", OperationTranslation::Text),
+    (b".AT", OperationTranslation::LastTurned),
+    (b".HS", OperationTranslation::Hex),
+    (b".BS", OperationTranslation::As(b"DS")),
     (
-        b"OBJ END LST LSTDO EXP PAG PAU TTL SKP TR AST SAV DSK TYP",
-        Turn::Nothing,
+        b".TF .TA .EN .LI .LIST .TI .TITLE .PG",
+        OperationTranslation::Nothing,
     ),
 ];
 
-static EDASM: [Row<Turn>; 4] = [
-    (b"DFB DB", Turn::List(List::Bytes)),
-    (b"DW", Turn::List(List::Words)),
-    (b"MSB", Turn::Msb),
-    (b"OBJ END LST SBTL PAGE SKP REP CHR", Turn::Nothing),
+static LISA: [Row<OperationTranslation>; 9] = [
+    (b"EPZ =", OperationTranslation::As(b"EQU")),
+    (b"BYT", OperationTranslation::List(List::Low)),
+    (b"HBY", OperationTranslation::List(List::High)),
+    (b"ADR", OperationTranslation::List(List::Words)),
+    (b"DFS", OperationTranslation::As(b"DS")),
+    (
+        b"OBJ END LST NLS TTL PAG PAU DCM",
+        OperationTranslation::Nothing,
+    ),
+    (b"BTR", OperationTranslation::As(b"BNE")),
+    (b"BFL", OperationTranslation::As(b"BEQ")),
+    (b"XOR", OperationTranslation::As(b"EOR")),
 ];
 
-static CA65: [Row<Turn>; 7] = [
-    (b"= :=", Turn::As(b"EQU")),
-    (b".ORG", Turn::As(b"ORG")),
-    (b".BYTE .BYT", Turn::List(List::Bytes)),
-    (b".ASCIIZ", Turn::Ended(List::Bytes)),
-    (b".WORD .ADDR", Turn::List(List::Words)),
-    (b".RES", Turn::As(b"DS")),
+static MERLIN: [Row<OperationTranslation>; 4] = [
+    (b"DFB DB", OperationTranslation::List(List::Bytes)),
+    (b"=", OperationTranslation::As(b"EQU")),
+    (b"DA DW", OperationTranslation::List(List::Words)),
+    (
+        b"OBJ END LST LSTDO EXP PAG PAU TTL SKP TR AST SAV DSK TYP",
+        OperationTranslation::Nothing,
+    ),
+];
+
+static EDASM: [Row<OperationTranslation>; 4] = [
+    (b"DFB DB", OperationTranslation::List(List::Bytes)),
+    (b"DW", OperationTranslation::List(List::Words)),
+    (b"MSB", OperationTranslation::Msb),
+    (
+        b"OBJ END LST SBTL PAGE SKP REP CHR",
+        OperationTranslation::Nothing,
+    ),
+];
+
+static CA65: [Row<OperationTranslation>; 7] = [
+    (b"= :=", OperationTranslation::As(b"EQU")),
+    (b".ORG", OperationTranslation::As(b"ORG")),
+    (b".BYTE .BYT", OperationTranslation::List(List::Bytes)),
+    (b".ASCIIZ", OperationTranslation::Ended(List::Bytes)),
+    (b".WORD .ADDR", OperationTranslation::List(List::Words)),
+    (b".RES", OperationTranslation::As(b"DS")),
     (
         b".SEGMENT .CODE .DATA .RODATA .SETCPU .P02 .EXPORT .LIST",
-        Turn::Nothing,
+        OperationTranslation::Nothing,
     ),
 ];
 
@@ -128,11 +137,11 @@ static SIGNS: [Row<Dialect>; 5] = [
 // Whether a word is one of these, in either case; they are separated by blanks.
 fn is_among(word: &[u8], words: &[u8]) -> bool {
     let mut rest = words;
-    while let Some((first, behind)) = first_word(rest) {
+    while let Some((first, following)) = first_word(rest) {
         if word.eq_ignore_ascii_case(first) {
             return true;
         }
-        rest = behind;
+        rest = following;
     }
     false
 }
@@ -149,26 +158,27 @@ fn found<T: Copy>(rows: &[Row<T>], word: &[u8]) -> Option<T> {
 
 /// Returns the translation of an operation. A mnemonic of the processor stays the same, unless the assembler gives it another
 /// meaning.
-pub(crate) fn turn_of(dialect: Dialect, word: &[u8]) -> Option<Turn> {
-    let (own, shared): (&[Row<Turn>], &[Row<Turn>]) = match dialect {
-        Dialect::Sc => (&SC, &SHARED[..2]),
-        Dialect::Lisa => (&LISA, &SHARED),
-        Dialect::Merlin => (&MERLIN, &SHARED),
-        Dialect::Edasm => (&EDASM, &SHARED[2..4]),
-        Dialect::Ca65 => (&CA65, &SHARED[..0]),
-    };
+pub(crate) fn translation_of(dialect: Dialect, word: &[u8]) -> Option<OperationTranslation> {
+    let (own, shared): (&[Row<OperationTranslation>], &[Row<OperationTranslation>]) =
+        match dialect {
+            Dialect::Sc => (&SC, &SHARED[..2]),
+            Dialect::Lisa => (&LISA, &SHARED),
+            Dialect::Merlin => (&MERLIN, &SHARED),
+            Dialect::Edasm => (&EDASM, &SHARED[2..4]),
+            Dialect::Ca65 => (&CA65, &SHARED[..0]),
+        };
     let turn = found(own, word)
         .or(found(shared, word))
-        .or(found(&ALIKE, word));
+        .or(found(&COMMON, word));
     if turn.is_some() {
         return turn;
     }
     let mnemonic = Mnemonic::named(word)?;
-    Some(Turn::As(mnemonic.name().as_bytes()))
+    Some(OperationTranslation::As(mnemonic.name().as_bytes()))
 }
 
 /// Returns the assembler to which a word belongs.
-pub(crate) fn told_by(word: &[u8]) -> Option<Dialect> {
+pub(crate) fn dialect_of_word(word: &[u8]) -> Option<Dialect> {
     let [first, next, ..] = word else {
         return None;
     };

@@ -5,7 +5,7 @@ use crate::operand::differs;
 use crate::parts::{Parts, parts_of};
 use crate::pieces::BLANKS;
 use crate::reading::Reading;
-use crate::rules::Turn;
+use crate::rules::OperationTranslation;
 use a2_asm::refused;
 use a2_syntax::parse;
 use std::alloc::{AllocError, Allocator};
@@ -38,17 +38,17 @@ impl<'a, A: Allocator + Copy> Reading<'a, A> {
     fn put_lines(&mut self, parts: &Parts<'_>) -> Result<(), AllocError> {
         let operand = parts.operand;
         match parts.turn {
-            Some(Turn::As(operation)) => self.put_plain(operation, operand),
-            Some(Turn::List(list)) => self.put_list(list, operand),
-            Some(Turn::Ended(list)) => {
+            Some(OperationTranslation::As(operation)) => self.put_plain(operation, operand),
+            Some(OperationTranslation::List(list)) => self.put_list(list, operand),
+            Some(OperationTranslation::Ended(list)) => {
                 self.put_list(list, operand)?;
                 self.put(&[b"\n", BLANKS, b"DFB 0"])
             }
-            Some(Turn::Hex) => self.put_hex(operand),
-            Some(Turn::Text) => self.put_text(operand),
-            Some(Turn::LastTurned) => self.put_ended(operand),
-            Some(Turn::Counted) => self.put_counted(operand),
-            Some(Turn::Msb | Turn::Nothing) | None => Ok(()),
+            Some(OperationTranslation::Hex) => self.put_hex(operand),
+            Some(OperationTranslation::Text) => self.put_text(operand),
+            Some(OperationTranslation::LastTurned) => self.put_ended(operand),
+            Some(OperationTranslation::Counted) => self.put_counted(operand),
+            Some(OperationTranslation::Msb | OperationTranslation::Nothing) | None => Ok(()),
         }
     }
 
@@ -93,11 +93,14 @@ impl<'a, A: Allocator + Copy> Reading<'a, A> {
     }
 
     // Imports a statement and returns whether it can be expressed here. Adds a note if its meaning differs.
-    fn put_said(&mut self, number: usize, parts: &Parts<'_>) -> Result<bool, AllocError> {
+    fn put_translated(&mut self, number: usize, parts: &Parts<'_>) -> Result<bool, AllocError> {
         self.put_lines(parts)?;
         self.put_comment(parts.comment)?;
         let is_said = self.end()?;
-        let is_plain = matches!(parts.turn, Some(Turn::As(_) | Turn::List(_)));
+        let is_plain = matches!(
+            parts.turn,
+            Some(OperationTranslation::As(_) | OperationTranslation::List(_))
+        );
         if is_said && is_plain && differs(self.dialect, parts.operand) {
             self.note(number, NoteKind::Differs)?;
         }
@@ -113,7 +116,7 @@ impl<'a, A: Allocator + Copy> Reading<'a, A> {
             }
         }
         self.text.truncate(self.start);
-        self.put_aside(line)
+        self.put_as_comment(line)
     }
 
     /// Imports the statement of a line.
@@ -125,11 +128,13 @@ impl<'a, A: Allocator + Copy> Reading<'a, A> {
         let parts = parts_of(self.dialect, line);
         self.begin(&parts)?;
         match parts.turn {
-            Some(Turn::Msb) => self.high = !parts.operand.eq_ignore_ascii_case(b"OFF"),
-            Some(Turn::Nothing) => self.note(number, NoteKind::Nothing)?,
+            Some(OperationTranslation::Msb) => self.high = !parts
+                .operand
+                .eq_ignore_ascii_case(b"OFF"),
+            Some(OperationTranslation::Nothing) => self.note(number, NoteKind::Nothing)?,
             None if !parts.operation.is_empty() => self.note(number, NoteKind::Unknown)?,
             _ => {
-                if self.put_said(number, &parts)? {
+                if self.put_translated(number, &parts)? {
                     return Ok(());
                 }
                 self.note(number, NoteKind::Unknown)?;

@@ -21,7 +21,7 @@ pub(crate) enum Token<'a> {
 }
 
 // Whether a byte can be part of a name after the first byte.
-fn is_of_name(dialect: Dialect, c: u8) -> bool {
+fn is_name_part(dialect: Dialect, c: u8) -> bool {
     c.is_ascii_alphanumeric() || c == b'_' || c == b'.' && dialect == Dialect::Sc
 }
 
@@ -29,7 +29,7 @@ fn is_of_name(dialect: Dialect, c: u8) -> bool {
 fn name_len(dialect: Dialect, text: &[u8]) -> usize
     ensures { result ≤ length text.now }
 {
-    front_len(text, |c| is_of_name(dialect, c))
+    front_len(text, |c| is_name_part(dialect, c))
 }
 
 /// Returns the mark that begins the name of a local label.
@@ -56,7 +56,7 @@ fn turned(dialect: Dialect, first: u8, rest: &[u8]) -> Option<Token<'_>> {
 
 // The text after a suffix that sets bit 7 of a character, in the syntax of ca65, or `None` without such a suffix.
 fn raised(rest: &[u8]) -> Option<&[u8]>
-    ensures { IfSome result (λ behind. length behind.now ≤ length rest.now) }
+    ensures { IfSome result (λ following. length following.now ≤ length rest.now) }
 {
     rest.strip_prefix(b"|$80").or(rest.strip_prefix(b"|128"))
 }
@@ -70,11 +70,11 @@ fn character(quote: u8, text: &[u8]) -> (Token<'_>, &[u8])
         return (Token::Byte(quote), text);
     }
     let rest = match rest {
-        [other, behind @ ..] if *other == quote => behind,
+        [other, following @ ..] if *other == quote => following,
         _ => rest,
     };
     match raised(rest) {
-        Some(behind) => (Token::Quoted(b'"', c), behind),
+        Some(following) => (Token::Quoted(b'"', c), following),
         None => (Token::Quoted(quote, c), rest),
     }
 }
@@ -85,7 +85,7 @@ fn text_up_to(quote: u8, text: &[u8]) -> (Token<'_>, &[u8])
 {
     let (found, rest) = before(text, &[quote]);
     match rest {
-        [_, behind @ ..] => (Token::Quoted(quote, found), behind),
+        [_, following @ ..] => (Token::Quoted(quote, found), following),
         [] => (Token::Byte(quote), text),
     }
 }
@@ -95,15 +95,15 @@ fn piece(dialect: Dialect, first: u8, rest: &[u8]) -> (Token<'_>, &[u8])
     ensures { length result.1.now ≤ length rest.now }
 {
     if let Some(found) = turned(dialect, first, rest) {
-        let (_, behind) = rest.split_at(rest.len().min(1));
-        return (found, behind);
+        let (_, following) = rest.split_at(rest.len().min(1));
+        return (found, following);
     }
-    let (name, behind) = rest.split_at(name_len(dialect, rest));
+    let (name, following) = rest.split_at(name_len(dialect, rest));
     if first == local_mark(dialect) && !name.is_empty() {
-        return (Token::Local(name), behind);
+        return (Token::Local(name), following);
     }
     if first.is_ascii_alphabetic() || first == b'_' {
-        return (Token::Name(first, name), behind);
+        return (Token::Name(first, name), following);
     }
     match first {
         b'"' if dialect == Dialect::Ca65 => text_up_to(first, rest),
@@ -114,7 +114,7 @@ fn piece(dialect: Dialect, first: u8, rest: &[u8]) -> (Token<'_>, &[u8])
 
 /// Returns the first token of a text and the text after it, or `None` at the end.
 pub(crate) fn first_token(dialect: Dialect, text: &[u8]) -> Option<(Token<'_>, &[u8])>
-    ensures { IfSome result (λ (_, behind). length behind.now < length text.now) }
+    ensures { IfSome result (λ (_, following). length following.now < length text.now) }
 {
     let (first, rest) = text.split_first()?;
     Some(piece(dialect, *first, rest))
@@ -125,11 +125,11 @@ pub(crate) fn span(dialect: Dialect, text: &[u8], stops: &[u8]) -> usize
     ensures { result ≤ length text.now }
 {
     let mut rest = text;
-    while let Some((found, behind)) = first_token(dialect, rest) {
+    while let Some((found, following)) = first_token(dialect, rest) {
         if matches!(found, Token::Byte(c) if stops.contains(&c)) {
             break;
         }
-        rest = behind;
+        rest = following;
     }
     text.len().saturating_sub(rest.len())
 }

@@ -9,7 +9,7 @@ use Rattle.a2_page.proofs.Sending.{IsLeft}
 use Rattle.a2_asm.specs.declared.program.Statement.{Statement}
 use Rattle.a2_asm.specs.Values.{Names}
 use Rattle.a2_text.specs.Digits.{hex_word}
-use Rattle.a2_list.specs.Listing.{columns, bytes_row, more_rows, rows_of_line, statement_of_line, behind_line, listing_rows, name_row, name_rows}
+use Rattle.a2_list.specs.Listing.{columns, bytes_row, more_rows, rows_of_line, statement_of_line, rows_after_line, listing_rows, name_row, name_rows}
 
 pub more-none : (image : ℕ → Option ℕ) (a n left : ℕ) → image a ≡ None → more_rows image a n left ≡ []
 more-none image a n zero h = refl
@@ -27,7 +27,7 @@ more-next image a n (suc left) byte h some =
 
 -- the rows from a line on
 pub rows-next : (cycles : Bool) (image : ℕ → Option ℕ) (statements : List Statement) (n i : ℕ) (items : List (Bor (List ℕ))) (d : Bor (List ℕ)) (own : Option Statement) (later : List Statement)
-    → own ≡ statement_of_line n statements → later ≡ behind_line n statements → i < length items
+    → own ≡ statement_of_line n statements → later ≡ rows_after_line n statements → i < length items
     → listing_rows cycles image statements n (drop i (map (λ x. x.now) items))
     ≡ rows_of_line cycles image own n (get_or items i d).now ++ listing_rows cycles image later (n + 1) (drop (i + 1) (map (λ x. x.now) items))
 rows-next cycles image statements n i items d own later is_own is_later low =
@@ -36,12 +36,12 @@ rows-next cycles image statements n i items d own later is_own is_later low =
     let rest = drop (i + 1) (map now items) in
     ap (λ (texts : List (List ℕ)). listing_rows cycles image statements n texts)
     (drop_more (map now items) i [] (omega (arith, count, low)) ∙ ap (λ (line : List ℕ). line ∷ rest) (get_or-map now items i d [] low))
-    ∙ ap (λ (o : Option Statement). rows_of_line cycles image o n (get_or items i d).now ++ listing_rows cycles image (behind_line n statements) (n + 1) rest) (sym is_own)
+    ∙ ap (λ (o : Option Statement). rows_of_line cycles image o n (get_or items i d).now ++ listing_rows cycles image (rows_after_line n statements) (n + 1) rest) (sym is_own)
     ∙ ap (λ (l : List Statement). rows_of_line cycles image own n (get_or items i d).now ++ listing_rows cycles image l (n + 1) rest) (sym is_later)
 
--- the same, with the empty line behind all
+-- the same, with the empty line after all of them
 pub gap-next : (cycles : Bool) (image : ℕ → Option ℕ) (statements : List Statement) (n i : ℕ) (items : List (Bor (List ℕ))) (d : Bor (List ℕ)) (own : Option Statement) (later : List Statement)
-    → own ≡ statement_of_line n statements → later ≡ behind_line n statements → i < length items
+    → own ≡ statement_of_line n statements → later ≡ rows_after_line n statements → i < length items
     → listing_rows cycles image statements n (drop i (map (λ x. x.now) items)) ++ codes "\n"
     ≡ rows_of_line cycles image own n (get_or items i d).now ++ (listing_rows cycles image later (n + 1) (drop (i + 1) (map (λ x. x.now) items)) ++ codes "\n")
 gap-next cycles image statements n i items d own later is_own is_later low =
@@ -67,7 +67,7 @@ names-next names i entry is =
     ap (λ (l : Names). name_rows l) (drop_more names i entry (slice_get_within names i entry is))
     ∙ ap (λ (e : List ℕ × ℕ). name_row (hex_word e.1) e.0 ++ name_rows (drop (i + 1) names)) (get_or_from_slice_get names i entry entry is)
 
--- the last part went out, or broke off, as the result says
+-- the last part was written, or broke off, as the result says
 pub left_last : {T E : Type 0} → (a b c : Taker) (r : Result T E) (whole rest part : List ℕ) → rest ≡ part → IsLeft a b whole rest
     → SendsOrBreaks b c r part → SendsOrBreaks a c r whole
 left_last a b c r whole rest part is h p =

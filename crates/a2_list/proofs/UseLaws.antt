@@ -32,7 +32,7 @@ uses-next name n i lines line used item is low =
     ∙ ap (λ l. uses name n (l ∷ drop (i + 1) lines)) (sym item)
     ∙ ap (λ (b : Bool). if b then n ∷ uses name (n + 1) (drop (i + 1) lines) else uses name (n + 1) (drop (i + 1) lines)) (sym is)
 
--- what is left to tell of uses, where some were told, or none, and the end of the row
+-- what is left to write of uses, if some were written or none, and the end of the row
 abbrev pub rest_of : Bool → List ℕ → List ℕ
 rest_of some ns = (if some then flat_map number ns else numbers ns) ++ codes "\n"
 

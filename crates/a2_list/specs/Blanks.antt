@@ -1,4 +1,4 @@
--- What stands between columns. This project's profile.
+-- The blanks between columns. This project's profile.
 use Rattle.std.specs.Prelude.{ℕ, List, take, codes}
 
 -- so many blanks, but at most 32

@@ -1,5 +1,5 @@
 pub mod Blanks
 pub mod Listing
 pub mod NameTable
-pub mod Told
+pub mod Reported
 pub mod Uses

@@ -11,7 +11,7 @@ use Rattle.a2_asm.specs.Values.{Names, name_value}
 use Rattle.a2_list.specs.Blanks.{blanks}
 use Rattle.a2_list.specs.Uses.{uses, definition}
 
--- the names in the order of their bytes: capitals by the alphabet, then `_`, then small letters
+-- the names in the order of their bytes: capitals in alphabetical order, then `_`, then small letters
 pub record AreInOrder (names : Names) (order : List (List ℕ)) : Type 0 where
   pub same : IsPermutation (map (λ entry. entry.0) names) order
   pub ascending : IsSorted (slice_cmp nat_cmp) order
@@ -20,16 +20,16 @@ pub record AreInOrder (names : Names) (order : List (List ℕ)) : Type 0 where
 abbrev pub width_of : List (List ℕ) → ℕ
 width_of order = fold (λ width name. max width (length name)) 4 order
 
--- the number of a line, behind a blank
+-- the number of a line, after a blank
 abbrev pub number : ℕ → List ℕ
 number n = codes " " ++ decimal n
 
--- the numbers of lines; or `-`, where there are none
+-- the numbers of lines, or `-` if there are none
 abbrev pub numbers : List ℕ → List ℕ
 numbers [] = codes " -"
 numbers (n ∷ ns) = flat_map number (n ∷ ns)
 
--- a name, its value, and the number of the line that defines it, with gaps behind name and number
+-- a name, its value, and the number of the line that defines it, with gaps after name and number
 unfoldable pub use_columns : ℕ → List ℕ → ℕ → List ℕ → List ℕ
 use_columns width name value line =
     concat (name ∷ blanks (width - length name) ∷ codes "  " ∷ hex_word value ∷ codes "   " ∷ line ∷ blanks (4 - length line) ∷ codes " " ∷ [])
@@ -39,7 +39,7 @@ abbrev pub use_row : {A : Type 0} → ℕ → Names → List (Line A) → List �
 use_row width names lines name =
     use_columns width name (unwrap_or (name_value names name) 0) (decimal (definition name lines)) ++ (numbers (uses name 1 lines) ++ codes "\n")
 
--- the head of the table, with a gap behind its first cell
+-- the head of the table, with a gap after its first cell
 unfoldable pub use_head : ℕ → List ℕ
 use_head width = concat (codes "NAME" ∷ blanks (width - 4) ∷ codes "  VALUE  LINE  USED IN LINES\n" ∷ [])
 

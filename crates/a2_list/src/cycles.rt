@@ -12,7 +12,7 @@ use arrayvec::ArrayVec;
 /// Blanks, a number and a mark.
 pub(crate) type Cell = ArrayVec<u8, 64>;
 
-// What marks the cycles of a row, of which there may be more.
+// Returns what marks the cycles of a row that may take more.
 fn mark_of(row: Row) -> &'static [u8]
     ensures mark { result.now ≡ listing.mark_of row }
     ensures short { length result.now ≤ 1 }
@@ -24,7 +24,7 @@ fn mark_of(row: Row) -> &'static [u8]
     }
 }
 
-// The opcode's row of a statement that is an instruction.
+// Returns the opcode table's row of a statement that is an instruction.
 fn row_in(statement: Option<Statement>) -> Option<Row>
     ensures { result ≡ listing.row_in statement }
 {
@@ -32,7 +32,7 @@ fn row_in(statement: Option<Statement>) -> Option<Row>
     row_for(instr.mnemonic, instr.mode)
 }
 
-/// The cell of a statement's cycles, where it is asked for, behind so many bytes of its row.
+/// Returns the cell of a statement's cycles, if it is asked for, after so many bytes of its row.
 pub(crate) fn cycles_cell(shown: bool, used: usize, statement: Option<Statement>) -> Cell
     ensures { result.items ≡ listing.cycles_cell shown used statement }
 {

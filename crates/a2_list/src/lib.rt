@@ -1,14 +1,14 @@
-//! The listing of a source and its names.
+//! Writes the listing of a source and its names.
 //!
-//! How it is called is shown in CALLING.md.
+//! CALLING.md shows how to call it.
 #![tactic(auto)]
 
 mod blanks;
 mod cycles;
 mod listing;
 mod name_table;
-mod told;
+mod reported;
 mod uses;
 
 pub use listing::{Shown, list_source};
-pub use told::list_told;
+pub use reported::list_or_report;

@@ -5,8 +5,7 @@ ghost use Rattle.a2_text.specs.Lines.{lines};
 ghost use Rattle.a2_stream.specs.Stream.{SendsOrBreaks};
 ghost use Rattle.a2_hex.specs.Images.{held};
 ghost use Rattle.a2_asm.specs.Entries.{entries};
-ghost use Rattle.a2_run.specs.Answers.{Answers, OfSource, is_read_fault};
-ghost use Rattle.a2_run.specs.Meaning.{IsRefused};
+ghost use Rattle.a2_run.specs.Answers.{Answers, is_read_fault};
 ghost use Rattle.a2_list.specs.Listing as listing;
 ghost use Rattle.a2_list.specs.Listing.{IsListing};
 
@@ -15,26 +14,25 @@ use crate::cycles::cycles_cell;
 use crate::name_table::{in_order, put_use_table};
 use a2_asm::{Names, Program, Statement};
 use a2_hex::{Image, append_run};
-use a2_run::{RunFault, program_of};
+use a2_run::{AssembledText, RunFault};
 use a2_stream::{Output, WriteFault, put, put_all};
-use a2_syntax::parse;
 use a2_text::{append, cut, decimal, hex_word};
 use arrayvec::ArrayVec;
 use std::alloc::Allocator;
 
-/// What a listing shows beside addresses, bytes, lines and names with their values.
+/// What a listing shows besides addresses, bytes, lines and names with their values.
 #[derive(Clone, Copy, Debug)]
 pub struct Shown {
-    /// The cycles of each instruction, by the opcode table, with a `+` where it may take more.
+    /// The cycles of each instruction from the opcode table, with a `+` if it may take more.
     pub cycles: bool,
-    /// Of each name the line that defines it and those that use it, in the order of the names' bytes.
+    /// For each name the line that defines it and the lines that use it, in the order of the names' bytes.
     pub uses: bool,
 }
 
 // An address with at most three bytes.
 type Columns = ArrayVec<u8, 16>;
 
-// An address with the bytes from there upwards, at most so many.
+// Returns an address with the bytes from there upwards, at most so many.
 #[tactic(auto, unfolding(crate::specs::Listing::columns))]
 fn columns<A: Allocator>(image: &Image<A>, address: u16, most: u16) -> Columns
     requires { most ≤ 3 }
@@ -43,14 +41,14 @@ fn columns<A: Allocator>(image: &Image<A>, address: u16, most: u16) -> Columns
     let mut columns = Columns::new();
     append(&mut columns, &hex_word(address));
     append(&mut columns, b"-  ");
-    // A byte lies below $C000, so its address and three more are words.
+    // A byte is below $C000, so its address and the three after it fit in 16 bits.
     if image.get(address).is_some() {
         append_run(image, address, most, &mut columns);
     }
     columns
 }
 
-// The same for the first bytes of a statement, and nothing where there is none.
+// The same for the first bytes of a statement; nothing if there is none.
 fn first_columns<A: Allocator>(image: &Image<A>, statement: Option<Statement>) -> Columns
     ensures { result.items ≡ listing.first_columns (held image.now) statement }
 {
@@ -60,7 +58,7 @@ fn first_columns<A: Allocator>(image: &Image<A>, statement: Option<Statement>) -
     }
 }
 
-// What stands between the number of a line and its text.
+// Returns what is between the number of a line and its text.
 fn before_text(text: &[u8]) -> &[u8]
     ensures { result.now ≡ listing.before_text text.now }
 {
@@ -99,7 +97,7 @@ fn put_first<A: Allocator, W: Output>(
     )
 }
 
-// Writes so many rows of three bytes each, behind that of the first three of so many bytes.
+// Writes so many rows of three bytes each, after the row of the first three of so many bytes.
 fn put_more<A: Allocator, W: Output>(
     image: &Image<A>,
     address: u16,
@@ -113,7 +111,7 @@ fn put_more<A: Allocator, W: Output>(
     let mut at = address;
     let mut left = count;
     for _ in 0..rows {
-        // A byte lies below $C000, so the address of the next row is a word.
+        // A byte is below $C000, so the address of the next row fits in 16 bits.
         let Some(_) = image.get(at) else {
             return Ok(());
         };
@@ -144,10 +142,10 @@ fn put_line<A: Allocator, W: Output>(
     put_more(image, addr, length, length.saturating_sub(1) / 3, writer)
 }
 
-// The statement of a line, and those of later lines, of which these are all.
+// Returns the statement of a line, if it has one, and the statements of later lines; `statements` has just these.
 fn split_line(number: usize, statements: &[Statement]) -> (Option<Statement>, &[Statement])
     ensures own { result.0 ≡ listing.statement_of_line number statements.now }
-    ensures later { result.1.now ≡ listing.behind_line number statements.now }
+    ensures later { result.1.now ≡ listing.rows_after_line number statements.now }
 {
     match statements {
         [first, later @ ..] if usize::from(first.line) == number => (Some(*first), later),
@@ -191,49 +189,45 @@ fn put_names<A: Allocator, W: Output>(names: &Names<A>, writer: &mut W) -> Resul
     Ok(())
 }
 
-// Writes the listing of a source whose lines these are.
+// Writes the listing of an assembled text with these lines.
 pub(crate) fn list_lines<A: Allocator + Copy, W: Output>(
     alloc: A,
-    source: &[u8],
+    assembled: &AssembledText<'_, A>,
     texts: &[&[u8]],
     shown: Shown,
     writer: &mut W,
 ) -> Result<(), RunFault>
-    requires { map (λ x. x.now) texts.now ≡ lines source.now }
-    ensures meaning { Answers (OfSource (IsRefused source.now)) (λ _. IsListing shown source.now) (W.taker writer.old)
+    requires { map (λ x. x.now) texts.now ≡ lines assembled.now.text }
+    ensures meaning { Answers (λ _. ⊥) (λ _. IsListing shown assembled.now.text) (W.taker writer.old)
         (W.taker writer.new) result }
     ensures no_reader { is_read_fault result ≡ false }
 {
-    let program = program_of(alloc, source)?;
+    let program = assembled.program();
     if shown.uses {
-        // What has a program is parsed, but for want of memory.
-        let Ok(parsed) = parse(alloc, source) else {
-            return Err(RunFault::Memory);
-        };
-        let order = in_order(alloc, &program)?;
-        put_lines(shown.cycles, &program, texts, writer)?;
-        put_use_table(&program, parsed.lines(), order.as_slice(), writer)?;
+        let lines = assembled.source().lines();
+        let order = in_order(alloc, program)?;
+        put_lines(shown.cycles, program, texts, writer)?;
+        put_use_table(program, lines, order.as_slice(), writer)?;
         return Ok(());
     }
-    put_lines(shown.cycles, &program, texts, writer)?;
+    put_lines(shown.cycles, program, texts, writer)?;
     put_names(program.names(), writer)?;
     Ok(())
 }
 
-/// Assembles a source and writes its listing: for each line the address and the bytes of its statement, three bytes a row,
-/// the line's number and the line; then an empty line; then each name with its value, in the order of the lines that define
-/// them. `shown` says what stands there beside this. Refused where the source is, where a write fails, and for want of memory.
-/// This project's profile.
+/// Writes the listing of a source: for each line the address and the bytes of its statement, three bytes a row, the line's number
+/// and the line; then an empty line; then each name with its value, in the order of the lines that define them. `shown` says what
+/// is shown besides. Fails if a write fails, or if there is not enough memory. This project's profile.
 pub fn list_source<A: Allocator + Copy, W: Output>(
     alloc: A,
-    source: &[u8],
+    assembled: &AssembledText<'_, A>,
     shown: Shown,
     writer: &mut W,
 ) -> Result<(), RunFault>
-    ensures meaning { Answers (OfSource (IsRefused source.now)) (λ _. IsListing shown source.now) (W.taker writer.old)
+    ensures meaning { Answers (λ _. ⊥) (λ _. IsListing shown assembled.now.text) (W.taker writer.old)
         (W.taker writer.new) result }
     ensures no_reader { is_read_fault result ≡ false }
 {
-    let texts = cut(alloc, source)?;
-    list_lines(alloc, source, texts.as_slice(), shown, writer)
+    let texts = cut(alloc, assembled.text())?;
+    list_lines(alloc, assembled, texts.as_slice(), shown, writer)
 }

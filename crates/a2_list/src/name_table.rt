@@ -15,7 +15,7 @@ use a2_syntax::Line;
 use a2_text::{decimal, hex_word};
 use std::alloc::{AllocError, Allocator};
 
-// The names of a map, in its order.
+// Returns the names of a map, in its order.
 fn names_of<A: Allocator + Copy>(alloc: A, names: &Names<A>) -> Result<Vec<&str, A>, AllocError>
     ensures { IfOk result (λ found. map (λ x. x.now) found.items ≡ map (λ entry. entry.0) (entries names.now)) }
 {
@@ -29,7 +29,7 @@ fn names_of<A: Allocator + Copy>(alloc: A, names: &Names<A>) -> Result<Vec<&str,
     Ok(found)
 }
 
-/// The names of a program, in the order of their bytes.
+/// Returns the names of a program, in the order of their bytes.
 pub(crate) fn in_order<A: Allocator + Copy>(
     alloc: A,
     program: &Program<A>,
@@ -41,14 +41,14 @@ pub(crate) fn in_order<A: Allocator + Copy>(
     Ok(order)
 }
 
-// The width of the first column of the table.
+// Returns the width of the first column of the table.
 fn width_of(order: &[&str]) -> usize
     ensures { result ≡ table.width_of (map (λ x. x.now) order.now) }
 {
     order.iter().fold(4, |width, name| width.max(name.len()))
 }
 
-// Writes the numbers of the lines that use a name, or a mark where there are none, and the end of the row.
+// Writes the numbers of the lines that use a name, or a mark if there are none, and the end of the row.
 fn put_uses<A: Allocator, W: Output>(
     name: &str,
     lines: &[Line<A>],
@@ -101,7 +101,7 @@ fn put_use_row<A: Allocator, W: Output>(
     put_uses(name, lines, writer)
 }
 
-/// Writes the table of a program's names in an order, of which these are the lines.
+/// Writes the table of a program's names in this order; `lines` are its lines.
 pub(crate) fn put_use_table<A: Allocator, W: Output>(
     program: &Program<A>,
     lines: &[Line<A>],

@@ -7,7 +7,7 @@ ghost use Rattle.a2_list.specs.Uses as uses;
 use a2_syntax::{Body, Expr, Line, Name, Term};
 use std::alloc::Allocator;
 
-// Whether a term is a name.
+// Returns whether a term is this name.
 fn is_named<A: Allocator>(name: &str, term: &Term<A>) -> bool
     ensures { result ≡ uses.is_named name.now term.now }
 {
@@ -17,21 +17,21 @@ fn is_named<A: Allocator>(name: &str, term: &Term<A>) -> bool
     }
 }
 
-// Whether a name stands in an expression.
+// Returns whether a name is in an expression.
 fn is_in<A: Allocator>(name: &str, e: &Expr<A>) -> bool
     ensures { result ≡ uses.is_in name.now e.now }
 {
     e.terms.get().iter().any(|t| is_named(name, &t.term))
 }
 
-// Whether a name stands in one of some expressions.
+// Returns whether a name is in one of some expressions.
 fn is_in_any<A: Allocator>(name: &str, es: &[Expr<A>]) -> bool
     ensures { result ≡ list_any (uses.is_in name.now) es.now }
 {
     es.iter().any(|e| is_in(name, e))
 }
 
-/// Whether a line uses a name.
+/// Returns whether a line uses a name.
 pub(crate) fn is_used_in<A: Allocator>(name: &str, line: &Line<A>) -> bool
     ensures { result ≡ uses.is_used_in name.now line.now }
 {
@@ -43,7 +43,7 @@ pub(crate) fn is_used_in<A: Allocator>(name: &str, line: &Line<A>) -> bool
     }
 }
 
-// Whether a name is a label.
+// Returns whether a name is this label.
 fn is_label<A: Allocator>(name: &str, label: &Option<Name<A>>) -> bool
     ensures { result ≡ uses.is_label name.now label.now }
 {
@@ -53,7 +53,7 @@ fn is_label<A: Allocator>(name: &str, label: &Option<Name<A>>) -> bool
     }
 }
 
-// The index of the first line with a name as its label.
+// Returns the index of the first line with this label.
 fn label_at<A: Allocator>(name: &str, lines: &[Line<A>]) -> Option<usize>
     ensures index { result ≡ position (λ line. uses.is_label name.now line.label) lines.now }
     ensures within { IfSome result (λ index. index < length lines.now) }
@@ -61,7 +61,7 @@ fn label_at<A: Allocator>(name: &str, lines: &[Line<A>]) -> Option<usize>
     lines.iter().position(|line| is_label(name, &line.label))
 }
 
-/// The number of the first line with a name as its label, or 0.
+/// Returns the number of the first line with this label, or 0.
 pub(crate) fn definition<A: Allocator>(name: &str, lines: &[Line<A>]) -> usize
     ensures { result ≡ uses.definition name.now lines.now }
 {

@@ -11,7 +11,7 @@ use Rattle.a2_services.specs.declared.rows.Service.TheVariants.{Cout}
 use Rattle.a2_services.specs.Rows.{services}
 use Rattle.a2_bus.specs.Memory.{ram_end}
 use Rattle.a2_machine.specs.declared.code_guard.Marked.{Marked}
-use Rattle.a2_machine.specs.Marks.{is_set, begins, begins_by, lies, guard_of, guard_if, first_mark, AreStarted, EndBy}
+use Rattle.a2_machine.specs.Marks.{is_set, begins, begins_by, lies, guard_of, guard_if, first_mark, AreStarted, BeginOnlyBelow}
 use Rattle.a2_machine.specs.CodeGuards.{is_blocked, IsCodeGuard, ArePlainMarks}
 use Rattle.a2_machine.specs.Outcome.{admits, protected_by}
 use Rattle.a2_machine.proofs.Marking.{among_below}
@@ -36,7 +36,7 @@ pub started_marks : (marks : List ℕ) → AreStarted marks → AreMarks marks
 started_marks marks started = record {
   size = started.size;
   inside = λ a within may. omega (arith, started.inside a (begun (slice_index marks a) may));
-  behind = λ a high within. ap (λ n. nat_le 2 n) (started.above a high within);
+  following = λ a high within. ap (λ n. nat_le 2 n) (started.above a high within);
 }
 
 pub started_above : (marks : List ℕ) → AreStarted marks → (a : ℕ) → ram_end ≤ a → a < 65536 → (begins marks a ≡ false) × (lies marks a ≡ false)
@@ -52,7 +52,7 @@ module _ (marks : List ℕ) (first : (a : ℕ) → a < 65536 → slice_index mar
   pub first_begins : (a : ℕ) → a < ram_end → begins marks a ≡ false
   first_begins a low = grind (arith, nat_tests, first a, low)
 
-  pub first_ends : EndBy marks 0
+  pub first_ends : BeginOnlyBelow marks 0
   first_ends a low is = grind (arith, first_begins a low, is)
 
   pub first_lies : (a : ℕ) → a < ram_end → lies marks a ≡ false

@@ -6,10 +6,10 @@ use Rattle.a2_machine.specs.declared.causes.Cause.TheVariants.{Returned, CodeWri
 -- the name in the cause line, and whether the program ended by itself
 pub record CauseRow : Type 0 where
   pub name : List ℕ
-  pub is_own_end : Bool
+  pub is_normal_end : Bool
 
 abbrev pub row_of : List ℕ → Bool → CauseRow
-row_of name is_own_end = record { name = name; is_own_end = is_own_end }
+row_of name is_normal_end = record { name = name; is_normal_end = is_normal_end }
 
 abbrev pub cause_row : Cause → CauseRow
 cause_row Returned = row_of (codes "RETURNED") true
@@ -26,5 +26,5 @@ cause_row Limit = row_of (codes "LIMIT") false
 abbrev pub cause_name : Cause → List ℕ
 cause_name cause = (cause_row cause).name
 
-abbrev pub is_own_end : Cause → Bool
-is_own_end cause = (cause_row cause).is_own_end
+abbrev pub is_normal_end : Cause → Bool
+is_normal_end cause = (cause_row cause).is_normal_end

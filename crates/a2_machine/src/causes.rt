@@ -35,16 +35,16 @@ pub enum Cause {
 macro_rules! causes {
     ($make:ident $($of:ident)?) => {
         $make!($($of)?;
-            Returned b"RETURNED" true b"the last RTS was done",
-            CodeWrite b"CODE WRITE" false b"what stands there would store into the bytes of an instruction",
-            Window b"WINDOW" false b"the service there needs its window and cursor, or the block, on the screen",
-            Keys b"KEYS" false b"the service there needs a key, and none is left (--keys)",
-            OffStatement b"OFF STATEMENT" false b"no instruction of the source begins there",
-            Rom b"ROM" false b"there is no RAM at $C000 and above",
-            Opcode b"OPCODE" false b"the byte there is no documented opcode",
-            Brk b"BRK" true b"there is a BRK",
-            Decimal b"DECIMAL" false b"ADC and SBC do no decimal arithmetic: CLD clears D",
-            Limit b"LIMIT" false b"the limit of steps is reached (--limit)"
+            Returned b"RETURNED" true b"the program returned",
+            CodeWrite b"CODE WRITE" false b"the next instruction or service would overwrite code",
+            Window b"WINDOW" false b"the window, cursor or block position is invalid for the next service",
+            Keys b"KEYS" false b"the next service needs a key, but none is waiting; give keys with --keys",
+            OffStatement b"OFF STATEMENT" false b"no instruction of the source begins at this address",
+            Rom b"ROM" false b"the next instruction is at or above $C000, where there is no RAM",
+            Opcode b"OPCODE" false b"the byte at this address is not a documented opcode",
+            Brk b"BRK" true b"the next instruction is BRK",
+            Decimal b"DECIMAL" false b"ADC and SBC do not support decimal mode; clear D with CLD",
+            Limit b"LIMIT" false b"the limit of steps was reached; raise it with --limit"
         )
     };
 }
@@ -86,8 +86,8 @@ impl Cause {
     }
 
     /// Returns whether a program that stops with this cause ended by itself. This project's profile.
-    pub fn is_own_end(self) -> bool
-        ensures { result ≡ by.is_own_end self }
+    pub fn is_normal_end(self) -> bool
+        ensures { result ≡ by.is_normal_end self }
     {
         causes!(own_ends self)
     }

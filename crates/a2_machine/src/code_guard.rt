@@ -7,7 +7,7 @@ ghost use Rattle.std.specs.List.{list_any};
 ghost use Rattle.a2_bus.specs.Memory.{ram_end};
 ghost use Rattle.a2_services.specs.Services.{reach as reach_of};
 ghost use Rattle.a2_machine.specs.ByteRun.{addresses_below};
-ghost use Rattle.a2_machine.specs.Marks.{begins, begins_by, lies, first_mark, whole_end, AreStarted, EndBy};
+ghost use Rattle.a2_machine.specs.Marks.{begins, begins_by, lies, first_mark, whole_end, AreStarted, BeginOnlyBelow};
 ghost use Rattle.a2_machine.specs.CodeGuards.{ArePlainMarks, is_blocked, BlocksBy};
 ghost use Rattle.a2_machine.specs.Outcome.{admits as admits_of, protected_by};
 
@@ -107,7 +107,7 @@ fn fill_from(marks: &mut [u8], start: usize, mark: u8)
 }
 
 // Sets the initial marks of the addresses from which fewer than three bytes are in RAM: the last two of RAM, and those above.
-fn start_last(marks: &mut [u8], free: bool)
+fn reset_last_marks(marks: &mut [u8], free: bool)
     requires size { length marks.old ≡ 65536 }
     requires before { (a : ℕ) → a < whole_end → slice_index marks.old a ≡ first_mark free a }
     ensures size { length marks.new ≡ 65536 }
@@ -121,13 +121,13 @@ fn start_last(marks: &mut [u8], free: bool)
 
 // Sets all marks to their initial values: those without a guard, where an instruction may begin anywhere, or those for a
 // program.
-fn start_marks(marks: &mut [u8], free: bool)
+fn reset_marks(marks: &mut [u8], free: bool)
     requires { length marks.old ≡ 65536 }
     ensures size { length marks.new ≡ 65536 }
     ensures first { (a : ℕ) → a < 65536 → slice_index marks.new a ≡ first_mark free a }
 {
     marks[..WHOLE_END].fill(if free { BEGINS } else { 0 });
-    start_last(marks, free);
+    reset_last_marks(marks, free);
 }
 
 // Marks that an instruction begins at an address, if the address is in RAM.
@@ -191,10 +191,10 @@ fn mark_bytes(marks: &mut [u8], blocked: &mut [bool; Service::COUNT], start: usi
 #[tactic(auto, using(crate::proofs::Guarding::same_addresses))]
 fn mark_instruction(marks: &mut [u8], marked: &mut Marked, address: u16, bytes: u16)
     requires started { AreStarted marks.old }
-    requires ends { EndBy marks.old marked.old.end }
+    requires ends { BeginOnlyBelow marks.old marked.old.end }
     requires blocks { BlocksBy marked.old.blocked (addresses_below ram_end (lies marks.old)) }
     ensures started { AreStarted marks.new }
-    ensures ends { EndBy marks.new marked.new.end }
+    ensures ends { BeginOnlyBelow marks.new marked.new.end }
     ensures begins { (a : ℕ) → a < ram_end → begins marks.new a ≡ (begins marks.old a || address == a) }
     ensures lies { (a : ℕ) → a < ram_end → lies marks.new a
         ≡ (lies marks.old a || (nat_le address a && nat_lt a (address + bytes))) }
@@ -219,10 +219,10 @@ fn mark_statements(marks: &mut [u8], statements: &[Statement]) -> Marked
     ensures started { AreStarted marks.new }
     ensures begins { (a : ℕ) → a < ram_end → begins marks.new a ≡ list_any (begins_at a) statements.now }
     ensures lies { (a : ℕ) → a < ram_end → lies marks.new a ≡ is_code statements.now a }
-    ensures ends { EndBy marks.new result.end }
+    ensures ends { BeginOnlyBelow marks.new result.end }
     ensures blocks { BlocksBy result.blocked (addresses_below ram_end (lies marks.new)) }
 {
-    start_marks(marks, false);
+    reset_marks(marks, false);
     let mut marked = Marked {
         end: 0,
         ..UNGUARDED
@@ -241,7 +241,7 @@ fn mark_all<A: Allocator>(marks: &mut Vec<u8, A>, statements: &[Statement]) -> M
     ensures started { AreStarted marks.new.items }
     ensures begins { (a : ℕ) → a < ram_end → begins marks.new.items a ≡ list_any (begins_at a) statements.now }
     ensures lies { (a : ℕ) → a < ram_end → lies marks.new.items a ≡ is_code statements.now a }
-    ensures ends { EndBy marks.new.items result.end }
+    ensures ends { BeginOnlyBelow marks.new.items result.end }
     ensures blocks { BlocksBy result.blocked (addresses_below ram_end (lies marks.new.items)) }
 {
     mark_statements(marks.as_mut_slice(), statements)
@@ -253,7 +253,7 @@ fn free_all<A: Allocator>(marks: &mut Vec<u8, A>)
     ensures size { length marks.new.items ≡ 65536 }
     ensures first { (a : ℕ) → a < 65536 → slice_index marks.new.items a ≡ first_mark true a }
 {
-    start_marks(marks.as_mut_slice(), true);
+    reset_marks(marks.as_mut_slice(), true);
 }
 
 // Returns this many copies of a byte.
@@ -270,7 +270,7 @@ fn free_marks<A: Allocator>(alloc: A) -> Result<Vec<u8, A>, AllocError>
     ensures first { IfOk result (λ marks. (a : ℕ) → a < 65536 → slice_index marks.items a ≡ first_mark true a) }
 {
     let mut marks = filled(alloc, BEGINS, ADDRESSES)?;
-    start_last(marks.as_mut_slice(), true);
+    reset_last_marks(marks.as_mut_slice(), true);
     Ok(marks)
 }
 

@@ -10,7 +10,7 @@ ghost use Rattle.a2_bus.specs.Memory.{ram_end, with_ram, peek as peek_of};
 ghost use Rattle.a2_bus.specs.View.{memory_of};
 ghost use Rattle.a2_effect.specs.View.{spare_bits_of, registers_of};
 ghost use Rattle.a2_hex.specs.Images.{held};
-ghost use Rattle.a2_machine.specs.Looks.{shown_at, seen_after};
+ghost use Rattle.a2_machine.specs.Looks.{shown_at, observer_after};
 ghost use Rattle.a2_machine.specs.Meaning.{stuck};
 ghost use Rattle.a2_machine.specs.Outcome.{most_cost};
 ghost use Rattle.a2_machine.specs.ProgramGuard.{guard_of_program};
@@ -21,7 +21,7 @@ ghost use Rattle.a2_machine.specs.declared.Stop.TheVariants.{Cause as StopCause,
 
 use crate::code_guard::{CodeGuard, NOTES};
 use crate::step::cause_at;
-use crate::steps::{StepsMade, make_one_step, make_steps, make_steps_alone};
+use crate::steps::{ExecutedSteps, execute_one_step, execute_steps, execute_steps_unobserved};
 use crate::{Cause, Stop};
 use a2_asm::Program;
 use a2_burst::{NoObserver, Observer};
@@ -383,7 +383,7 @@ impl<A: Allocator> Machine<A> {
     }
 
     // Counts executed steps.
-    fn count(&mut self, done: StepsMade)
+    fn count(&mut self, done: ExecutedSteps)
         requires steps { self.old.state.steps + done.made ≤ most_steps }
         requires cycles { done.cycles ≤ most_cost * done.made }
         ensures counted { self.new ≡ (let s = self.old.state in record {
@@ -404,12 +404,12 @@ impl<A: Allocator> Machine<A> {
         breakpoints: &B,
         observer: &mut O,
     ) -> Option<Stop>
-        ensures made { Rattle.a2_machine.specs.State.IsMaking (B.is_breakpoint breakpoints.now) limit self.old self.new result }
-        ensures seen { observer.new ≡ seen_after O.seen (shown_at (code_of self.old.state) (world_of_state self.old.state))
+        ensures made { Rattle.a2_machine.specs.State.IsPartOfRun (B.is_breakpoint breakpoints.now) limit self.old self.new result }
+        ensures seen { observer.new ≡ observer_after O.seen (shown_at (code_of self.old.state) (world_of_state self.old.state))
             observer.old (self.new.state.steps - self.old.state.steps) }
     {
         let most = self.most_within(limit);
-        let done = make_steps(
+        let done = execute_steps(
             &mut self.regs,
             self.board.space_mut(),
             &self.guard,
@@ -422,11 +422,11 @@ impl<A: Allocator> Machine<A> {
     }
 
     // Does the same without breakpoints and without an observer.
-    fn make_alone(&mut self, limit: u64) -> Option<Stop>
-        ensures { Rattle.a2_machine.specs.State.IsMaking (λ address. false) limit self.old self.new result }
+    fn execute_unobserved(&mut self, limit: u64) -> Option<Stop>
+        ensures { Rattle.a2_machine.specs.State.IsPartOfRun (λ address. false) limit self.old self.new result }
     {
         let most = self.most_within(limit);
-        let done = make_steps_alone(
+        let done = execute_steps_unobserved(
             &mut self.regs,
             self.board.space_mut(),
             &self.guard,
@@ -455,7 +455,7 @@ impl<A: Allocator> Machine<A> {
         ensures stuck { IfSome result (λ _. self.new ≡ self.old) }
     {
         if self.steps < MACHINE_MAX_STEPS {
-            return match make_one_step(&mut self.regs, self.board.space_mut(), &self.guard) {
+            return match execute_one_step(&mut self.regs, self.board.space_mut(), &self.guard) {
                 Ok(cycles) => {
                     self.cycles += u64::from(cycles);
                     self.steps += 1;
@@ -474,7 +474,7 @@ impl<A: Allocator> Machine<A> {
     pub fn run(&mut self, limit: u32) -> Cause
         ensures { IsMachineRun limit self.old self.new result }
     {
-        if let Some(stop) = self.make_alone(u64::from(limit)) {
+        if let Some(stop) = self.execute_unobserved(u64::from(limit)) {
             return cause_in(stop);
         }
         self.stop()
@@ -484,7 +484,7 @@ impl<A: Allocator> Machine<A> {
     /// including calls of services. This project's profile.
     pub fn run_observed<O: Observer>(&mut self, limit: u32, observer: &mut O) -> Cause
         ensures run { IsMachineRun limit self.old self.new result }
-        ensures seen { observer.new ≡ seen_after O.seen (shown_at (code_of self.old.state) (world_of_state self.old.state))
+        ensures seen { observer.new ≡ observer_after O.seen (shown_at (code_of self.old.state) (world_of_state self.old.state))
             observer.old (self.new.state.steps - self.old.state.steps) }
     {
         cause_in(self.run_by(limit, &NoBreakpoints, observer))
@@ -507,7 +507,7 @@ impl<A: Allocator> Machine<A> {
         observer: &mut O,
     ) -> Stop
         ensures run { IsRunTo (B.is_breakpoint breakpoints.now) limit self.old self.new result }
-        ensures seen { observer.new ≡ seen_after O.seen (shown_at (code_of self.old.state) (world_of_state self.old.state))
+        ensures seen { observer.new ≡ observer_after O.seen (shown_at (code_of self.old.state) (world_of_state self.old.state))
             observer.old (self.new.state.steps - self.old.state.steps) }
     {
         if let Some(stop) = self.make(u64::from(limit), breakpoints, observer) {

@@ -6,7 +6,7 @@ ghost use Rattle.a2_effect.specs.Live.{live_registers};
 ghost use Rattle.a2_services.specs.World.{world_of};
 ghost use Rattle.a2_machine.specs.Meaning.{stuck};
 ghost use Rattle.a2_machine.specs.ByteRun.{bytes};
-ghost use Rattle.a2_machine.specs.Outcome.{IsCallAt, IsOutcome, TellsCall, TellsStep, cost_of, most_cost};
+ghost use Rattle.a2_machine.specs.Outcome.{IsCallAt, IsOutcome, MatchesCallAnswer, MatchesStepAnswer, cost_of, most_cost};
 
 use crate::Cause;
 use crate::code_guard::CodeGuard;
@@ -23,7 +23,7 @@ use std::alloc::Allocator;
 // The outcome of a guarded step: its cycles, or the cause for which it was not executed.
 #[inline(always)]
 fn outcome_of(step: GuardedStep) -> Result<u32, Cause>
-    ensures { TellsStep step result }
+    ensures { MatchesStepAnswer step result }
 {
     match step {
         GuardedStep::Next(cycles) => Ok(cycles),
@@ -38,7 +38,7 @@ fn outcome_of(step: GuardedStep) -> Result<u32, Cause>
 // The same for a call of a service.
 #[inline(always)]
 fn outcome_of_call(answer: Served) -> Result<u32, Cause>
-    ensures { TellsCall answer result }
+    ensures { MatchesCallAnswer answer result }
 {
     match answer {
         Served::Next(cycles) => Ok(cycles),
@@ -68,7 +68,7 @@ fn call_at<C: Allocator>(pc: u16, guard: &CodeGuard<C>) -> Result<Service, Cause
 // Executes one step with PC above RAM.
 #[inline(always)]
 #[tactic(auto, using(crate::proofs::Costs::called_cost))]
-fn make_step_above<A: Allocator, C: Allocator>(
+fn execute_step_above<A: Allocator, C: Allocator>(
     live: &mut Live,
     space: &mut AddressSpace<A>,
     guard: &CodeGuard<C>,
@@ -90,7 +90,7 @@ fn make_step_above<A: Allocator, C: Allocator>(
 /// nothing changes. Returns the step's cycles but does not count them.
 #[inline(always)]
 #[tactic(auto, using(crate::proofs::Calls::off_statement))]
-pub fn make_step<A: Allocator, C: Allocator>(
+pub fn execute_step<A: Allocator, C: Allocator>(
     live: &mut Live,
     space: &mut AddressSpace<A>,
     guard: &CodeGuard<C>,
@@ -100,7 +100,7 @@ pub fn make_step<A: Allocator, C: Allocator>(
     ensures cycles { live.new.cycles ≡ live.old.cycles }
 {
     if live.pc >= RAM_END {
-        return make_step_above(live, space, guard);
+        return execute_step_above(live, space, guard);
     }
     if !guard.admits(live.pc) {
         return Err(Cause::OffStatement);

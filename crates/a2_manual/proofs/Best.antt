@@ -13,7 +13,7 @@ use Rattle.a2_manual.specs.Nearer.{Best, nearer, nearest_from}
 -- a name is the first one at this distance
 abbrev IsFirst : (List ℕ → ℕ) → List (List ℕ) → ℕ → List ℕ → Type 0
 IsFirst far known bound found =
-    (bound ≡ far found) × (bound < 3) × ((front : List (List ℕ)) × (behind : List (List ℕ)) × (known ≡ front ++ found ∷ behind) × All (λ other. bound < far other) front)
+    (bound ≡ far found) × (bound < 3) × ((front : List (List ℕ)) × (following : List (List ℕ)) × (known ≡ front ++ found ∷ following) × All (λ other. bound < far other) front)
 
 abbrev IsBest : (List ℕ → ℕ) → List (List ℕ) → Best → Type 0
 IsBest far known best = All (λ other. best.bound ≤ far other) known × MatchOption best.found (best.bound ≡ 3) (IsFirst far known best.bound)
@@ -53,7 +53,7 @@ answer name known None bound h = All-weaker (λ other. bound ≤ distance name o
 answer name known (Some x) bound h = (
   record {
     front = h.1.2.0;
-    behind = h.1.2.1;
+    following = h.1.2.1;
     names_are = h.1.2.2;
     none_nearer = All-weaker (λ other. bound ≤ distance name other) (λ other. distance name x.now ≤ distance name other) (λ y p. omega (arith, p, h.1.0)) known h.0;
     none_before = All-weaker (λ other. bound < distance name other) (λ other. distance name x.now < distance name other) (λ y p. omega (arith, p, h.1.0)) h.1.2.0 h.1.2.3;

@@ -2,7 +2,7 @@
 use Rattle.std.specs.Prelude.{ℕ, List, fold, Option, Some, nat_lt, if◌then◌else◌}
 use Rattle.std.specs.Option.{option_copied}
 use Rattle.a2_manual.specs.Nearest.{edits}
-use Rattle.a2_manual.specs.declared.nearness.Nearest.{Nearest}
+use Rattle.a2_manual.specs.declared.nearest_name.Nearest.{Nearest}
 
 -- the nearest name, if any was near, and the distance that a nearer one must be below
 pub record Best : Type 0 where

@@ -20,7 +20,7 @@ distance name known = edits (map to_ascii_uppercase name) known
 -- the first of those names that are nearest to a name
 pub record IsNearest (name : List ℕ) (names : List (List ℕ)) (found : List ℕ) : Type 0 where
   pub front : List (List ℕ)
-  pub behind : List (List ℕ)
-  pub names_are : names ≡ front ++ found ∷ behind
+  pub following : List (List ℕ)
+  pub names_are : names ≡ front ++ found ∷ following
   pub none_nearer : All (λ other. distance name found ≤ distance name other) names
   pub none_before : All (λ other. distance name found < distance name other) front

@@ -25,6 +25,6 @@ abbrev pub IsKnown : List ℕ → List (List ℕ) → Type 0
 IsKnown name topics = Any (HasName name) topics
 
 -- this is what the first of these topics that has the name says
-abbrev pub IsSaid : List ℕ → List (List ℕ) → List ℕ → Type 0
-IsSaid name [] text = ⊥
-IsSaid name (topic ∷ more) text = (HasName name topic × (text ≡ said topic)) ⊎ (¬ (HasName name topic) × IsSaid name more text)
+abbrev pub IsTopicText : List ℕ → List (List ℕ) → List ℕ → Type 0
+IsTopicText name [] text = ⊥
+IsTopicText name (topic ∷ more) text = (HasName name topic × (text ≡ said topic)) ⊎ (¬ (HasName name topic) × IsTopicText name more text)

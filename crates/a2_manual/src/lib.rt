@@ -4,12 +4,12 @@
 #![tactic(auto)]
 
 mod cutting;
-mod finding;
-mod nearness;
+mod nearest_name;
+mod topic_lookup;
 mod topics;
 
-pub use finding::topic;
-pub use nearness::near;
+pub use nearest_name::near;
+pub use topic_lookup::topic;
 
 /// Returns the topics of the manual as one text, which `topic` and `near` search. `tests/topics` compares it with
 /// docs/manual.

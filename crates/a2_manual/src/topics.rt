@@ -16,17 +16,17 @@ this table is E2; on the right, commas separate lines.
   'LDA #1': ' LDA #1': a line without a label begins with a blank
   ' LDA#1': ' LDA #1': put a blank between operation and operand
   LOOP: RTS: LOOP RTS
+  ' LOOP RTS', ' LOOP: RTS': 'LOOP RTS': a label begins in column 1
   :LOOP RTS, @LOOP RTS, .LOOP RTS, ]LOOP RTS: LOOP RTS; there are no local
     labels
   MY.NAME RTS, MY-NAME RTS: MY_NAME RTS: a name consists of letters, digits
     and _
   'A EQU 1': 'ACC EQU 1': 'A' is not allowed as a name
   ' EQU 5': 'FIVE EQU 5'
-  COUT = $FDED: COUT EQU $FDED
+  'COUT = $FDED', 'EQU COUT $FDED', ' define COUT $FDED': 'COUT EQU $FDED'
   ' *=$300', ' .org $300': ' ORG $300'
   ' .byte 1', ' DB 1', ' FCB 1', ' DC.B 1', ' !byte 1': ' DFB 1'
   ' .word 1', ' DA 1', ' ADR 1', ' FDB 1': ' DW 1'
-  ' DS 3,0': ' DS 3' stores zeros; for other bytes write ' DFB 255,255,255'
 More: docs/manual/refusals.md
 ~E3
 E3 TOO MANY NAMES
@@ -134,7 +134,7 @@ G5 TOO MANY STEPS
 The smallest script: step 100000001
 The position and N together are above 100,000,000, even if the program would
 stop before.
-Fix: make fewer steps, or begin again.
+Fix: run fewer steps, or begin again.
 ~BAD WORDS
 BAD WORDS, status 2
 The arguments have none of the forms: run is missing (./a2 hello.s), an option
@@ -188,7 +188,8 @@ PC is $FF69: the last RTS was executed.
      RTS
 The normal end: the last RTS went to $FF69. If it came too early, a
 subroutine's RTS found no return address on the stack: look for one PLA too
-many, or for code that runs on into a subroutine.
+many, or for code that runs on into a subroutine. a2lab run says which line
+ran on into a subroutine.
 ~BRK
 STOP BRK
 The instruction is BRK.
@@ -205,13 +206,17 @@ Flags: none.
 STOP LIMIT
 There is no other cause, and the limit of steps is reached.
     L JMP L
-All allowed steps were made: 1,000,000, or the number after --limit. Allow
-more steps, or look for a loop that never ends:
+All allowed steps were run: 1,000,000, or the number after --limit. Allow more
+steps, or look for a loop that never ends:
 - a counter that is stored again inside the loop
 - a branch on flags that another instruction has set in between
 - a wait for a key at $C000 when no key is typed
 - a routine at a hook that changes the X or Y of the loop that called it
 - a hook that leads back to itself, such as $FDED in $36 and $37
+- a routine that calls itself, or routines that call one another in a circle,
+  until the stack is full
+- an RTS that goes back into the program, because it pulled a byte that PHA
+  pushed
 ~OFF STATEMENT
 STOP OFF STATEMENT
 Guarded: PC is not a service, and no instruction of the source begins there.
@@ -224,6 +229,7 @@ service either. The usual causes:
   ' LDX #$FF', ' TXS', ' RTS': '0001'; leave out 'TXS': a run begins with S =
     '$FD' and the last return address above it; or end with ' JMP $FF69'
   ' PHA', ' RTS': '6801'; pull what was pushed before 'RTS'
+  ' RTI': '00FF'; end with 'RTS': 'RTI' returns from an interrupt
   ' JSR $FF3A', ' RTS': 'FF3A'; write what replaces that entry: of the
     Monitor, only the services exist
   ' STA $37', ' JSR $FDED', ' RTS': '00F0'; store both bytes of a routine's
@@ -968,7 +974,7 @@ $0800 to $0BFF: text page 2.
 Monitor: store
     *300:11 22 33
     *:44
-A store answers nothing. A line without an address stores at the next address:
+A store has no answer. A line without an address stores at the next address:
 the one after the last byte stored. 300: without bytes sets it to $0300; at
 first it is $0000.
 ~EXAMINE
@@ -1026,18 +1032,19 @@ Monitor: go
     *BFFDG
     A=C1 X=00 Y=00 P=B0 S=FF PC=FF69 STEPS=4 CYCLES=16
     STOP RETURNED
-The program is called: its last RTS returns to the Monitor, reported as STOP
-RETURNED. Each run has at most 1,000,000 steps; stops.md has the other causes
-of a stop. A, X, Y and P keep their values from the run before, at first 0; S,
-$01FE and $01FF are set anew. STEPS and CYCLES count on through the session.
-You can go to any address, also to a service.
+The program is called as a subroutine: its last RTS returns to the Monitor,
+and the answer is STOP RETURNED. Each run has at most 1,000,000 steps;
+stops.md has the other causes of a stop. A, X, Y and P keep their values from
+the run before, at first 0; S, $01FE and $01FF are set again. STEPS and CYCLES
+continue to count through the session. You can go to any address, also to a
+service.
 
 Debugger: go N
-Makes N steps like step, but stops after a step that reaches a breakpoint.
+Runs N steps like step, but stops after a step that reaches a breakpoint.
 Answer: the register line, then STOP and the cause, or BREAK.
 ~STEP
 Debugger: step N
-Makes N steps, or fewer if a cause stops them; breakpoints are ignored.
+Runs N steps, or fewer if a cause stops the program; breakpoints are ignored.
 Answer: the register line, then STOP and the cause.
 ~BACK
 Debugger: back N
@@ -1055,12 +1062,15 @@ Types the keys K. Answer: nothing.
 Debugger: screen
 Answer: the picture.
 ~--KEYS
---keys K: these keys wait at the start; the spelling stands in machine.md.
+--keys K: types the keys K, which all wait from the start; machine.md says how
+to spell them.
 ~--LIMIT
---limit N: at most so many steps: 1 to 9 digits, at most 100,000,000.
+--limit N: stops the run after at most N steps: 1 to 9 digits, at most
+100,000,000; without it 1,000,000.
 ~--FREE
---free: without the guard: instructions may begin anywhere, and code may be
-stored to.
+--free: runs without the guard: instructions may begin anywhere, and code may
+be overwritten.
 ~--ATTR
---attr: behind the picture, how each character is shown.
+--attr: prints after the picture how each character is shown: normal, inverse
+or flashing.
 "##;

@@ -1,4 +1,3 @@
-pub mod EndLaws
 pub mod ImageLaws
 pub mod LineLaws
 pub mod ShownLaws

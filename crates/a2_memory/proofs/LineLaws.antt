@@ -12,7 +12,7 @@ use Rattle.a2_text.specs.Digits.{hex_digit, hex_word}
 use Rattle.a2_text.specs.Signs.{sign}
 use Rattle.a2_text.specs.Words.{words}
 use Rattle.a2_hex.specs.ObjectLines.{hex_address}
-use Rattle.a2_monitor.specs.Commands.{Command, command_of, examines, has_letter, text_before, behind, range_by, range_of, single_of, transfer_of}
+use Rattle.a2_monitor.specs.Commands.{Command, command_of, examines, has_letter, text_before, following, range_by, range_of, single_of, transfer_of}
 use Rattle.a2_monitor.proofs.ParseLaws.{one_word}
 
 -- the digits are neither spaces nor signs
@@ -33,9 +33,9 @@ none-pass : (p : ℕ → Bool) (a : ℕ) (rest : List ℕ) → ((n : ℕ) → p 
 none-pass p a rest none = rw (none (a / 256 / 16), none (a / 256 % 16), none (a % 256 / 16), none (a % 256 % 16)) refl
 
 -- and it first passes the sign after the address
-passes-behind : (p : ℕ → Bool) (a c : ℕ) (rest : List ℕ) → ((n : ℕ) → p (hex_digit n) ≡ false) → p c ≡ true
+passes-following : (p : ℕ → Bool) (a c : ℕ) (rest : List ℕ) → ((n : ℕ) → p (hex_digit n) ≡ false) → p c ≡ true
     → position_or_len p (hex_word a ++ c ∷ rest) ≡ 4
-passes-behind p a c rest none passed =
+passes-following p a c rest none passed =
     rw (none (a / 256 / 16), none (a / 256 % 16), none (a % 256 / 16), none (a % 256 % 16), passed) refl
 
 -- the value of four digits
@@ -91,15 +91,15 @@ shows-line a b low high =
     let less : has_letter (sign "<") line ≡ false =
     none-pass (λ c. eqb c 60) a (46 ∷ hex_word b) not_less ∙ none-pass (λ c. eqb c 60) b [] not_less in
     let dot : has_letter (sign ".") line ≡ true = none-pass (λ c. eqb c 46) a (46 ∷ hex_word b) not_dot in
-    let place : position_or_len (λ c. eqb c 46) line ≡ 4 = passes-behind (λ c. eqb c 46) a 46 (hex_word b) not_dot refl in
+    let place : position_or_len (λ c. eqb c 46) line ≡ 4 = passes-following (λ c. eqb c 46) a 46 (hex_word b) not_dot refl in
     let front : text_before (sign ".") line ≡ hex_word a = ap (λ (n : ℕ). take n line) place in
-    let back : behind (sign ".") line ≡ hex_word b = ap (λ (n : ℕ). drop (n + 1) line) place in
+    let back : following (sign ".") line ≡ hex_word b = ap (λ (n : ℕ). drop (n + 1) line) place in
     sym (one_word line line [] (sym colon) (one-word a b) refl)
-    ∙ cond-false (has_letter (sign "<") line) (transfer_of (text_before (sign "<") line) (behind (sign "<") line))
+    ∙ cond-false (has_letter (sign "<") line) (transfer_of (text_before (sign "<") line) (following (sign "<") line))
     (if-dot line) less
     ∙ cond-true (has_letter (sign ".") line) (option_map (λ range. examines range) (range_of line)) (single_of line) dot
     ∙ ap (option_map (λ range. examines range))
-    (cond-true (has_letter (sign ".") line) (range_by (hex_address (text_before (sign ".") line)) (hex_address (behind (sign ".") line))) None dot
+    (cond-true (has_letter (sign ".") line) (range_by (hex_address (text_before (sign ".") line)) (hex_address (following (sign ".") line))) None dot
     ∙ ap₂ (λ (x y : List ℕ). range_by (hex_address x) (hex_address y)) front back
     ∙ ap₂ (λ (x y : Option ℕ). range_by x y) (address-word a low) (address-word b high))
   where

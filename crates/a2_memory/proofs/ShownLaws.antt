@@ -11,14 +11,14 @@ use Rattle.a2_bus.specs.Memory.{Memory, ram_end}
 use Rattle.a2_monitor.specs.declared.fault.MonFault.{MonFault}
 use Rattle.a2_monitor.specs.declared.fault.MonFault.TheVariants.{Syntax, Backward, Outside, Write}
 use Rattle.a2_monitor.specs.Commands.{Command, command_of, examines}
-use Rattle.a2_monitor.specs.Sittings.{Sitting, CommandDoes, command_refusal, examined}
-use Rattle.a2_monitor.specs.Answers.{IsAnswered, LineAnswers, line_refusal}
+use Rattle.a2_monitor.specs.SessionStates.{SessionState, CommandDoes, command_error, examined}
+use Rattle.a2_monitor.specs.Answers.{IsAnswered, LineAnswers, line_error}
 use Rattle.a2_memory.specs.declared.part.Part.{Part}
 use Rattle.a2_memory.specs.Parts.{shown_part}
 
 -- a part never causes an error
-never-refused : (first last next : ℕ) → first ≤ last → last < ram_end → command_refusal (examines (record { first = first; last = last })) next ≡ None
-unfolding command_refusal
+never-refused : (first last next : ℕ) → first ≤ last → last < ram_end → command_error (examines (record { first = first; last = last })) next ≡ None
+unfolding command_error
 never-refused first last next ordered inside =
     let forward : nat_lt last first ≡ false = le-ltb last first ordered in
     let some : nat_lt 0 (last + 1 - first) ≡ true = lt-ltb 0 (last + 1 - first) (omega (arith, ordered)) in
@@ -26,11 +26,11 @@ never-refused first last next ordered inside =
     rw (forward, some, within) refl
 
 -- what a session answers to the line of a part
-pub record IsPartShown (first last : ℕ) (old new : Sitting) (a b : Taker) (r : Result (Unit {0}) MonFault) : Type 0 where
+pub record IsPartShown (first last : ℕ) (old new : SessionState) (a b : Taker) (r : Result (Unit {0}) MonFault) : Type 0 where
   pub world : new.world ≡ old.world
   pub shown : SendsOrBreaks a b r (examined old.world.memory (record { first = first; last = last }))
 
-module _ (line : List ℕ) (first last : ℕ) (old new : Sitting) (says : command_of line ≡ Some (examines (record { first = first; last = last })))
+module _ (line : List ℕ) (first last : ℕ) (old new : SessionState) (says : command_of line ≡ Some (examines (record { first = first; last = last })))
     (ordered : first ≤ last) (inside : last < ram_end) where
   same-command : (command : Command) → command_of line ≡ Some command → command ≡ examines (record { first = first; last = last })
   same-command command is = cc
@@ -40,21 +40,21 @@ module _ (line : List ℕ) (first last : ℕ) (old new : Sitting) (says : comman
   answered text is = subst (λ (command : Command). CommandDoes command old text new) (same-command is.command is.says) is.done.answers
 
   refusal_by : Option Command → Option MonFault
-  refusal_by o = elim o [ None ↦ Some Syntax | Some command ↦ command_refusal command old.next ]
+  refusal_by o = elim o [ None ↦ Some Syntax | Some command ↦ command_error command old.next ]
 
-  refused-not : (why : MonFault) → line_refusal line old ≡ Some why → ⊥
+  refused-not : (why : MonFault) → line_error line old ≡ Some why → ⊥
   unfolding refusal_by
   refused-not why refused =
-      let none : line_refusal line old ≡ None = ap (λ (o : Option Command). refusal_by o) says ∙ never-refused first last old.next ordered inside in
+      let none : line_error line old ≡ None = ap (λ (o : Option Command). refusal_by o) says ∙ never-refused first last old.next ordered inside in
       cc
 
   pub part_shown : (a b : Taker) (r : Result (Unit {0}) MonFault) → LineAnswers line old new a b r → IsPartShown first last old new a b r
   part_shown a b (Ok x) (text, is, sent) =
       let does = answered text is in
-      record { world = ap (λ (s : Sitting). s.world) does.1; shown = subst (Sends a b) does.0 sent }
+      record { world = ap (λ (s : SessionState). s.world) does.1; shown = subst (Sends a b) does.0 sent }
   part_shown a b (Err Write) (text, is, broke) =
       let does = answered text is in
-      record { world = ap (λ (s : Sitting). s.world) does.1; shown = subst (Breaks a b) does.0 broke }
+      record { world = ap (λ (s : SessionState). s.world) does.1; shown = subst (Breaks a b) does.0 broke }
   part_shown a b (Err Syntax) h = absurd (refused-not Syntax h.0)
   part_shown a b (Err Backward) h = absurd (refused-not Backward h.0)
   part_shown a b (Err Outside) h = absurd (refused-not Outside h.0)

@@ -3,7 +3,7 @@ use Rattle.std.specs.Prelude.{ℕ, nat_lt, nat_le, ◌&&◌, List, Option, Some,
 use Rattle.std.specs.List.{flat_map}
 use Rattle.a2_bus.specs.Memory.{Memory, ram_end}
 use Rattle.a2_symbols.specs.declared.places.Span.{Span}
-use Rattle.a2_monitor.specs.Sittings.{examined}
+use Rattle.a2_monitor.specs.SessionStates.{examined}
 use Rattle.a2_memory.specs.declared.part.Part.{Part}
 
 -- the first and the last address of a part

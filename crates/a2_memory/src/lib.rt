@@ -3,14 +3,10 @@
 //! CALLING.md shows how to use this crate.
 #![tactic(auto)]
 
-mod ends;
 mod image;
 mod part;
 mod parts;
-mod source;
 
-pub use ends::ended;
 pub use image::image_of;
 pub use part::Part;
 pub use parts::write_parts;
-pub use source::{image_source, memory_source};

@@ -4,7 +4,7 @@ ghost use Rattle.std.specs.Prelude.{◌≡◌, ◌<◌, ◌+◌, ◌++◌, codes
 ghost use Rattle.a2_text.specs.Digits.{hex_word};
 ghost use Rattle.a2_stream.specs.Stream.{SendsOrBreaks};
 ghost use Rattle.a2_bus.specs.View.{memory_of};
-ghost use Rattle.a2_monitor.specs.Sittings.{sitting_of};
+ghost use Rattle.a2_monitor.specs.SessionStates.{state_of_session};
 ghost use Rattle.a2_memory.specs.Parts.{bounds_in, bounds_of, shown_part, shown_parts};
 
 use crate::part::Part;
@@ -53,9 +53,9 @@ fn write_part<A: Allocator, W: Output>(
     part: Part,
     writer: &mut W,
 ) -> Result<(), WriteFault>
-    ensures world { (sitting_of session.new).world ≡ (sitting_of session.old).world }
+    ensures world { (state_of_session session.new).world ≡ (state_of_session session.old).world }
     ensures shown { SendsOrBreaks (W.taker writer.old) (W.taker writer.new) result
-        (shown_part (sitting_of session.old).world.memory part) }
+        (shown_part (state_of_session session.old).world.memory part) }
 {
     match session.line(line_of(part).as_slice(), writer) {
         Ok(()) => Ok(()),

@@ -1,6 +1,6 @@
 -- Worked examples of the definitions, checked by computation.
 use Rattle.std.specs.Prelude.{◌≡◌, ℕ, ◌==◌, [], ◌∷◌, codes, Some, None, if◌then◌else◌, refl}
-use Rattle.a2_hex.specs.ObjectLines.{store_of, given_before, hex_bytes, byte_of}
+use Rattle.a2_hex.specs.ObjectLines.{store_of, address_before_colon, hex_bytes, byte_of}
 use Rattle.a2_opcode.specs.Encoding.{fetched, decoded}
 use Rattle.a2_opcode.specs.Listing.{listing}
 use Rattle.a2_opcode.specs.Table.{row_of, table}
@@ -10,7 +10,7 @@ use Rattle.a2_bus.specs.Memory.{Memory, ram_byte, with_ram}
 use Rattle.a2_monitor.specs.declared.fault.MonFault.TheVariants.{Backward, Outside}
 use Rattle.a2_monitor.specs.declared.parsing.Range.{Range}
 use Rattle.a2_monitor.specs.Commands.{command_of, nothing, examines, moves, verifies, lists, goes, stores}
-use Rattle.a2_monitor.specs.Sittings.{command_refusal, examined, differences, listed, with_stored_bytes, moved, bytes_at}
+use Rattle.a2_monitor.specs.SessionStates.{command_error, examined, differences, listed, with_stored_bytes, moved, bytes_at}
 
 abbrev range : ℕ → ℕ → Range
 range first last = record { first = first; last = last }
@@ -30,15 +30,15 @@ unfolding command_of
 go_line = refl
 
 store_line : command_of (codes "300:a9 1") ≡ Some (stores (record { address = Some 0x300; bytes = 0xA9 ∷ 1 ∷ [] }))
-unfolding command_of store_of given_before hex_bytes byte_of
+unfolding command_of store_of address_before_colon hex_bytes byte_of
 store_line = refl
 
 store_on_line : command_of (codes " : 5") ≡ Some (stores (record { address = None; bytes = 5 ∷ [] }))
-unfolding command_of store_of given_before hex_bytes byte_of
+unfolding command_of store_of address_before_colon hex_bytes byte_of
 store_on_line = refl
 
 long_byte_line : command_of (codes "300:123") ≡ None
-unfolding command_of store_of given_before hex_bytes byte_of
+unfolding command_of store_of address_before_colon hex_bytes byte_of
 long_byte_line = refl
 
 blank_line : command_of (codes " \t ") ≡ Some nothing
@@ -90,34 +90,34 @@ module _ (devices : Devices) where
 
 -- Lines that are rejected
 
-backward_example : command_refusal (examines (range 0x30F 0x300)) 0 ≡ Some Backward
-unfolding command_refusal
+backward_example : command_error (examines (range 0x30F 0x300)) 0 ≡ Some Backward
+unfolding command_error
 backward_example = refl
 
-backward_first_example : command_refusal (moves 0xFFFF (range 0xC005 0xC000)) 0 ≡ Some Backward
-unfolding command_refusal
+backward_first_example : command_error (moves 0xFFFF (range 0xC005 0xC000)) 0 ≡ Some Backward
+unfolding command_error
 backward_first_example = refl
 
-outside_example : command_refusal (moves 0xBFFF (range 0x300 0x301)) 0 ≡ Some Outside
-unfolding command_refusal
+outside_example : command_error (moves 0xBFFF (range 0x300 0x301)) 0 ≡ Some Outside
+unfolding command_error
 outside_example = refl
 
-last_example : command_refusal (verifies 0xBFFF (range 0x300 0x300)) 0 ≡ None
-unfolding command_refusal
+last_example : command_error (verifies 0xBFFF (range 0x300 0x300)) 0 ≡ None
+unfolding command_error
 last_example = refl
 
-next_example : command_refusal (stores (record { address = None; bytes = 1 ∷ [] })) 0xC000 ≡ Some Outside
-unfolding command_refusal
+next_example : command_error (stores (record { address = None; bytes = 1 ∷ [] })) 0xC000 ≡ Some Outside
+unfolding command_error
 next_example = refl
 
-empty_example : command_refusal (stores (record { address = Some 0xC000; bytes = [] })) 0 ≡ None
-unfolding command_refusal
+empty_example : command_error (stores (record { address = Some 0xC000; bytes = [] })) 0 ≡ None
+unfolding command_error
 empty_example = refl
 
-list_outside_example : command_refusal (lists 0xC000) 0 ≡ Some Outside
-unfolding command_refusal
+list_outside_example : command_error (lists 0xC000) 0 ≡ Some Outside
+unfolding command_error
 list_outside_example = refl
 
-go_example : command_refusal (goes 0xFF69) 0 ≡ None
-unfolding command_refusal
+go_example : command_error (goes 0xFF69) 0 ≡ None
+unfolding command_error
 go_example = refl

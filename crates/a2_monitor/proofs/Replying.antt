@@ -11,23 +11,23 @@ use Rattle.a2_machine.proofs.Runs.{run-is_end, end-unique}
 use Rattle.a2_monitor.specs.declared.fault.MonFault.{MonFault}
 use Rattle.a2_monitor.specs.declared.fault.MonFault.TheVariants as fault
 use Rattle.a2_monitor.specs.Commands.{Command, command_of, nothing, examines, stores, moves, verifies, lists, goes}
-use Rattle.a2_monitor.specs.Sittings.{Sitting, CommandDoes, end_lines, command_refusal, sitting_with, examined, differences, listed, with_stored_bytes, moved}
-use Rattle.a2_monitor.specs.Answers.{IsAnswered, line_refusal}
+use Rattle.a2_monitor.specs.SessionStates.{SessionState, CommandDoes, end_lines, command_error, state_with, examined, differences, listed, with_stored_bytes, moved}
+use Rattle.a2_monitor.specs.Answers.{IsAnswered, line_error}
 use Rattle.a2_monitor.specs.Replies.{IsReply}
 use Rattle.a2_monitor.specs.Texts.{monitor_fault_text}
 
-pub refusal_is : (line : List ℕ) (old : Sitting) (o : Option Command) → command_of line ≡ o
-    → line_refusal line old ≡ (elim o [ None ↦ Some fault.Syntax | Some command ↦ command_refusal command old.next ])
-refusal_is line old o h = rw (h, line_refusal)
+pub refusal_is : (line : List ℕ) (old : SessionState) (o : Option Command) → command_of line ≡ o
+    → line_error line old ≡ (elim o [ None ↦ Some fault.Syntax | Some command ↦ command_error command old.next ])
+refusal_is line old o h = rw (h, line_error)
 
 -- each command has an answer
-answered : (command : Command) (old : Sitting) → (text : List ℕ) × (new : Sitting) × CommandDoes command old text new
+answered : (command : Command) (old : SessionState) → (text : List ℕ) × (new : SessionState) × CommandDoes command old text new
 answered nothing old = ([], old, (refl, refl))
 answered (examines range) old = (examined old.world.memory range, record old { next = range.first }, (refl, refl))
 answered (stores store) old =
     let at = unwrap_or store.address old.next in
-    ([], record (sitting_with old (with_stored_bytes old.world.memory at store.bytes)) { next = at + length store.bytes }, (refl, refl))
-answered (moves to range) old = ([], sitting_with old (moved old.world.memory range to), (refl, refl))
+    ([], record (state_with old (with_stored_bytes old.world.memory at store.bytes)) { next = at + length store.bytes }, (refl, refl))
+answered (moves to range) old = ([], state_with old (moved old.world.memory range to), (refl, refl))
 answered (verifies to range) old = (differences old.world.memory range to, old, (refl, refl))
 answered (lists at) old = (listed old.world.memory at 20, old, (refl, refl))
 answered (goes at) old =
@@ -37,29 +37,29 @@ answered (goes at) old =
       (end.cause, record { end = end; runs = run-is_end (bytes None) (called_at at old.world) (min 1_000_000 (most_steps - old.steps)); left = refl; cause_is = refl }, refl),
     )
 
-turned_down : (line : List ℕ) (old : Sitting) (why : MonFault) → line_refusal line old ≡ Some why → (text : List ℕ) × (new : Sitting) × IsReply line old text new
+turned_down : (line : List ℕ) (old : SessionState) (why : MonFault) → line_error line old ≡ Some why → (text : List ℕ) × (new : SessionState) × IsReply line old text new
 turned_down line old why h = (monitor_fault_text why ++ codes "\n", old, inr (record { fault = why; refused = h; told = refl; kept = refl }))
 
 -- so each line has a reply
-pub each-reply : (line : List ℕ) (old : Sitting) → (text : List ℕ) × (new : Sitting) × IsReply line old text new
+pub each-reply : (line : List ℕ) (old : SessionState) → (text : List ℕ) × (new : SessionState) × IsReply line old text new
 each-reply line old = go (command_of line) refl
   where
-    done : (command : Command) → command_of line ≡ Some command → (o : Option MonFault) → command_refusal command old.next ≡ o
-        → (text : List ℕ) × (new : Sitting) × IsReply line old text new
+    done : (command : Command) → command_of line ≡ Some command → (o : Option MonFault) → command_error command old.next ≡ o
+        → (text : List ℕ) × (new : SessionState) × IsReply line old text new
     done command says (Some why) h = turned_down line old why (refusal_is line old (Some command) says ∙ h)
     done command says None h =
         let (text, new, answers) = answered command old in
         (text, new, inl (record { command = command; says = says; done = record { allowed = h; answers = answers } }))
 
-    go : (o : Option Command) → command_of line ≡ o → (text : List ℕ) × (new : Sitting) × IsReply line old text new
+    go : (o : Option Command) → command_of line ≡ o → (text : List ℕ) × (new : SessionState) × IsReply line old text new
     go None h = turned_down line old fault.Syntax (refusal_is line old None h)
-    go (Some command) h = done command h (command_refusal command old.next) refl
+    go (Some command) h = done command h (command_error command old.next) refl
 
 -- a command has only one answer
-abbrev Same : List ℕ → List ℕ → Sitting → Sitting → Type 0
+abbrev Same : List ℕ → List ℕ → SessionState → SessionState → Type 0
 Same text words new other = (text ≡ words) × (new ≡ other)
 
-one-answer : (command : Command) (old new other : Sitting) (text words : List ℕ) → CommandDoes command old text new → CommandDoes command old words other
+one-answer : (command : Command) (old new other : SessionState) (text words : List ℕ) → CommandDoes command old text new → CommandDoes command old words other
     → Same text words new other
 one-answer (goes at) old new other text words (cause, a, told) (why, b, said) =
     let same : a.end ≡ b.end = end-unique (bytes None) (called_at at old.world) (min 1_000_000 (most_steps - old.steps)) a.end b.end a.runs b.runs in
@@ -71,10 +71,10 @@ one-answer (stores store) old new other text words a b = (a.0 ∙ sym b.0, a.1 �
 one-answer _ old new other text words a b = (a.0 ∙ sym b.0, a.1 ∙ sym b.1)
 
 -- a line that is answered is not rejected
-answered-allowed : (line : List ℕ) (old new : Sitting) (text : List ℕ) → IsAnswered line old text new → line_refusal line old ≡ None
+answered-allowed : (line : List ℕ) (old new : SessionState) (text : List ℕ) → IsAnswered line old text new → line_error line old ≡ None
 answered-allowed line old new text a = refusal_is line old (Some a.command) a.says ∙ a.done.allowed
 
-pub one-reply : (line : List ℕ) (old new other : Sitting) (text words : List ℕ) → IsReply line old text new → IsReply line old words other
+pub one-reply : (line : List ℕ) (old new other : SessionState) (text words : List ℕ) → IsReply line old text new → IsReply line old words other
     → (text ≡ words) × (new ≡ other)
 one-reply line old new other text words (inl a) (inl b) =
     let same : a.command ≡ b.command = cc (a.says, b.says) in

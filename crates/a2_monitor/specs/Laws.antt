@@ -5,16 +5,16 @@ use Rattle.a2_bus.specs.Memory.{Memory, ram_byte, ram_end}
 use Rattle.a2_bus.specs.View.{memory_of}
 use Rattle.a2_monitor.specs.declared.parsing.Range.{Range}
 use Rattle.a2_monitor.specs.Replies.{IsReply}
-use Rattle.a2_monitor.specs.Sittings.{Sitting, range_refusal, size_of, source_of, with_stored_bytes, moved}
+use Rattle.a2_monitor.specs.SessionStates.{SessionState, range_error, size_of, source_of, with_stored_bytes, moved}
 
 -- each line has a reply
 abbrev pub EachLineHasReply : Type 0
-EachLineHasReply = (line : List ℕ) (old : Sitting) → (text : List ℕ) × (new : Sitting) × IsReply line old text new
+EachLineHasReply = (line : List ℕ) (old : SessionState) → (text : List ℕ) × (new : SessionState) × IsReply line old text new
 
 -- each line has only one reply, and leaves only one session state
 abbrev pub OneReply : Type 0
 OneReply =
-    (line : List ℕ) (old new other : Sitting) (text words : List ℕ)
+    (line : List ℕ) (old new other : SessionState) (text words : List ℕ)
     → IsReply line old text new → IsReply line old words other → (text ≡ words) × (new ≡ other)
 
 -- after bytes are stored in RAM, each of them is at its address
@@ -32,7 +32,7 @@ StoresNoOther =
 -- after a range is moved, each byte of the destination is the byte that was at its source
 abbrev pub MovesEachByte : Type 0
 MovesEachByte =
-    (bus : BusState) (range : Range) (to i : ℕ) → length bus.bytes ≡ ram_end → range_refusal range to ≡ None → i < size_of range
+    (bus : BusState) (range : Range) (to i : ℕ) → length bus.bytes ≡ ram_end → range_error range to ≡ None → i < size_of range
     → ram_byte (moved (memory_of bus) range to) (to + i) ≡ ram_byte (memory_of bus) (source_of range to i)
 
 -- moving leaves every other byte unchanged

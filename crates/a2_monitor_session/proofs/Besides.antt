@@ -8,7 +8,7 @@ use Rattle.std.proofs.lemmas.List.Sums.{prefix_len_passes, prefix_len_stops}
 use Rattle.std.proofs.lemmas.List.Folds.{length-prefix_len}
 use Rattle.std.proofs.lemmas.Grind.{flat_map-append}
 use Rattle.std.proofs.lemmas.Bool.{not-true, eqb-true}
-use Rattle.a2_monitor_session.specs.Besides.{IsPlain, Row, IsRow, line_alone, line_whole}
+use Rattle.a2_monitor_session.specs.Besides.{IsPlain, Row, IsRow, line_without_note, line_with_note}
 
 abbrev pub in_line : ℕ → Bool
 in_line c = not (eqb c 10)
@@ -43,8 +43,8 @@ line-and-rest text l =
 pub record Sofar (text whole rest : List ℕ) : Type 0 where
   pub rows : List Row
   pub are_rows : All IsRow rows
-  pub text_is : flat_map line_alone rows ++ rest ≡ text
-  pub whole_is : whole ≡ flat_map line_whole rows
+  pub text_is : flat_map line_without_note rows ++ rest ≡ text
+  pub whole_is : whole ≡ flat_map line_with_note rows
 
 -- one more line
 pub sofar-more : (text whole rest line told next more : List ℕ) (end : ℕ) → Sofar text whole rest
@@ -54,14 +54,14 @@ sofar-more text whole rest line told next more end far end_is l line_is next_is 
   rows = far.rows ++ row ∷ [];
   are_rows = All-append IsRow far.rows (row ∷ []) far.are_rows (All-cons IsRow row [] (line_plain, plain) (All-nil IsRow));
   text_is =
-      ap (λ xs. xs ++ next) (flat_map-append line_alone far.rows (row ∷ []) ∙ ap (λ xs. flat_map line_alone far.rows ++ xs) (append-nil (line_alone row)))
-      ∙ append_assoc (flat_map line_alone far.rows) (line_alone row) next
-      ∙ ap (λ xs. flat_map line_alone far.rows ++ xs) (append_assoc line (codes "\n") next ∙ split)
+      ap (λ xs. xs ++ next) (flat_map-append line_without_note far.rows (row ∷ []) ∙ ap (λ xs. flat_map line_without_note far.rows ++ xs) (append-nil (line_without_note row)))
+      ∙ append_assoc (flat_map line_without_note far.rows) (line_without_note row) next
+      ∙ ap (λ xs. flat_map line_without_note far.rows ++ xs) (append_assoc line (codes "\n") next ∙ split)
       ∙ far.text_is;
   whole_is =
       more_is
-      ∙ ap₂ (λ xs ys. xs ++ ys) far.whole_is (sym (append-nil (line_whole row)))
-      ∙ sym (flat_map-append line_whole far.rows (row ∷ []));
+      ∙ ap₂ (λ xs ys. xs ++ ys) far.whole_is (sym (append-nil (line_with_note row)))
+      ∙ sym (flat_map-append line_with_note far.rows (row ∷ []));
 }
   where
     row : Row

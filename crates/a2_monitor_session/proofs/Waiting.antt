@@ -11,8 +11,8 @@ use Rattle.a2_timed_keys.specs.declared.strokes.Typed.{Typed}
 use Rattle.a2_timed_keys.specs.Typed.{typed, keys_at, world_before_keys, world_with_keys, IsTypedEnd}
 use Rattle.a2_timed_keys.proofs.Keys.{keys_at-append, keys_at-not, keys_at-here}
 use Rattle.a2_timed_keys.proofs.Worlds.{typed-typed, typed-nil, world-typed, with-more, world-start}
-use Rattle.a2_monitor.specs.Sittings.{Sitting, IsFreeRun, with_keys}
-use Rattle.a2_monitor_session.specs.Waits.{GoesOn, WaitingIsTyping}
+use Rattle.a2_monitor.specs.SessionStates.{SessionState, IsFreeRun, with_keys}
+use Rattle.a2_monitor_session.specs.Waits.{RunsWithWaits, WaitingIsTyping}
 use Rattle.a2_monitor_session.proofs.Runs.{run_more}
 
 abbrev code : Code
@@ -109,7 +109,7 @@ module _ (start : World) (log : List Typed) (n : ℕ) (world : World) (at : Reac
       why (inr (none, made, is)) = inr (none, ap (λ m. n + m) made ∙ sum, is)
 
 -- the number of steps never goes down
-pub goes-more : (keys : List ℕ) (start : World) (limit : ℕ) (old new : Sitting) (cause : Cause) → GoesOn keys start limit old new cause → old.steps ≤ new.steps
+pub goes-more : (keys : List ℕ) (start : World) (limit : ℕ) (old new : SessionState) (cause : Cause) → RunsWithWaits keys start limit old new cause → old.steps ≤ new.steps
 goes-more [] start limit old new cause h = run_more start limit old new cause h
 goes-more (key ∷ keys) start limit old new cause (wait, run, rest) =
     let first : old.steps ≤ wait.steps = run_more start limit old wait _ run in
@@ -117,14 +117,14 @@ goes-more (key ∷ keys) start limit old new cause (wait, run, rest) =
     omega (arith, first, then)
 
 -- the end of a run from one session to another, after this many steps
-abbrev end_of : ℕ → ℕ → Sitting → Cause → End
-end_of n before sitting cause = record { world = sitting.world; steps = n + (sitting.steps - before); cause = cause }
+abbrev end_of : ℕ → ℕ → SessionState → Cause → End
+end_of n before session_state cause = record { world = session_state.world; steps = n + (session_state.steps - before); cause = cause }
 
-end-is : (start : World) (limit n : ℕ) (old new : Sitting) (cause : Cause) (h : IsFreeRun start limit old new cause)
+end-is : (start : World) (limit n : ℕ) (old new : SessionState) (cause : Cause) (h : IsFreeRun start limit old new cause)
     → end_of n old.steps new cause ≡ record { world = h.end.world; steps = n + h.end.steps; cause = h.end.cause }
 end-is start limit n old new cause h =
     let count : (old.steps + h.end.steps) - old.steps ≡ h.end.steps = omega arith in
-    ap₂ (λ (s : Sitting) (c : Cause). end_of n old.steps s c) h.left h.cause_is
+    ap₂ (λ (s : SessionState) (c : Cause). end_of n old.steps s c) h.left h.cause_is
     ∙ ap (λ k. let e : End = record { world = h.end.world; steps = n + k; cause = h.end.cause } in e) count
 
 map-append : (xs ys : List Typed) → map (λ (t : Typed). t.key) (xs ++ ys) ≡ map (λ (t : Typed). t.key) xs ++ map (λ (t : Typed). t.key) ys
@@ -134,12 +134,12 @@ map-append (x ∷ xs) ys = ap (λ ks. x.key ∷ ks) (map-append xs ys)
 left-over : (n e limit most all : ℕ) → e ≤ min limit most → n + min limit most ≡ all → (n + e) + min (limit - e) (most - e) ≡ all
 left-over n e limit most all within sum = grind (arith)
 
-key-world : (key : ℕ) (wait : Sitting) → (with_keys (key ∷ []) wait).world ≡ typed (key ∷ []) wait.world
+key-world : (key : ℕ) (wait : SessionState) → (with_keys (key ∷ []) wait).world ≡ typed (key ∷ []) wait.world
 unfolding typed
 key-world key wait = refl
 
-all-of : (start : World) (keys : List ℕ) (log : List Typed) (n all : ℕ) (world : World) (limit : ℕ) (old new : Sitting) (cause : Cause)
-    → Reached start log n world → n + min limit (most_steps - old.steps) ≡ all → GoesOn keys world limit old new cause
+all-of : (start : World) (keys : List ℕ) (log : List Typed) (n all : ℕ) (world : World) (limit : ℕ) (old new : SessionState) (cause : Cause)
+    → Reached start log n world → n + min limit (most_steps - old.steps) ≡ all → RunsWithWaits keys world limit old new cause
     → (whole : List Typed) × (map (λ (t : Typed). t.key) whole ≡ map (λ (t : Typed). t.key) log ++ keys)
     × IsTypedEnd code start whole all (end_of n old.steps new cause)
 all-of start [] log n all world limit old new cause at sum h = (
@@ -150,9 +150,9 @@ all-of start [] log n all world limit old new cause at sum h = (
 )
 all-of start (key ∷ keys) log n all world limit old new cause at sum (wait, run, rest) =
     let e : ℕ = run.end.steps in
-    let steps : wait.steps ≡ old.steps + e = ap (λ (s : Sitting). s.steps) run.left in
+    let steps : wait.steps ≡ old.steps + e = ap (λ (s : SessionState). s.steps) run.left in
     let there : Reached start log (n + e) run.end.world = ran start log n world at (min limit (most_steps - old.steps)) run.end run.runs in
-    let waits : Reached start log (n + e) wait.world = subst (λ w. Reached start log (n + e) w) (sym (ap (λ (s : Sitting). s.world) run.left)) there in
+    let waits : Reached start log (n + e) wait.world = subst (λ w. Reached start log (n + e) w) (sym (ap (λ (s : SessionState). s.world) run.left)) there in
     let typed_at : Reached start (log ++ stroke (n + e) key ∷ []) (n + e) (with_keys (key ∷ []) wait).world
     = subst (λ w. Reached start (log ++ stroke (n + e) key ∷ []) (n + e) w) (sym (key-world key wait)) (keyed start log (n + e) key wait.world waits) in
     let made : wait.steps - old.steps ≡ e = omega (arith, steps) in

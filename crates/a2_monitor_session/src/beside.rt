@@ -2,9 +2,9 @@
 
 ghost use Rattle.std.specs.Prelude.{◌≡◌, ◌++◌, List, ℕ, codes, None, is_some, All, IfOk, IfErr};
 ghost use Rattle.a2_stream.specs.Stream.{SendsOrBreaks};
-ghost use Rattle.a2_monitor.specs.Sittings.{sitting_of};
-ghost use Rattle.a2_monitor_session.specs.Besides.{IsPlain, IsBeside, IsToldOrNot};
-ghost use Rattle.a2_monitor_session.specs.Monitors.{IsBegun, IsTurnedDown};
+ghost use Rattle.a2_monitor.specs.SessionStates.{state_of_session};
+ghost use Rattle.a2_monitor_session.specs.Besides.{IsPlain, IsBeside, IsBesideOrNoMemory};
+ghost use Rattle.a2_monitor_session.specs.Monitors.{IsBegun, IsLoadError};
 
 use crate::Monitor;
 use crate::source::{Source, beside};
@@ -101,7 +101,7 @@ fn put_beside<A: Allocator + Copy, W: Output>(
     text: &[u8],
     writer: &mut W,
 ) -> Result<(), WriteFault>
-    ensures { (out : List ℕ) × IsToldOrNot text.now out × SendsOrBreaks (W.taker writer.old) (W.taker writer.new) result out }
+    ensures { (out : List ℕ) × IsBesideOrNoMemory text.now out × SendsOrBreaks (W.taker writer.old) (W.taker writer.new) result out }
 {
     match with_source_beside(alloc, source, text) {
         Ok(whole) => put(whole.as_slice(), writer),
@@ -117,10 +117,10 @@ impl<'k, 't, A: Allocator + Copy> Annotated<'k, 't, A> {
         keyboard: Option<&'k Cell<bool>>,
         text: &'t [u8],
     ) -> Result<Annotated<'k, 't, A>, RunFault>
-        ensures begun { IfOk result (λ monitor. IsBegun text.now (sitting_of monitor.session)) }
+        ensures begun { IfOk result (λ monitor. IsBegun text.now (state_of_session monitor.session)) }
         ensures live { IfOk result (λ monitor. monitor.is_live ≡ is_some keyboard.entry) }
         ensures wait { IfOk result (λ monitor. monitor.wait ≡ None) }
-        ensures refused { IfErr result (λ fault. IsTurnedDown text.now fault) }
+        ensures refused { IfErr result (λ fault. IsLoadError text.now fault) }
     {
         let (monitor, program) = Monitor::with_program(alloc, keyboard, text)?;
         let source = match program {

@@ -4,12 +4,12 @@
 #![tactic(auto)]
 
 mod beside;
-mod laws;
-mod look;
 mod monitor;
 mod press;
+mod screen_copy;
 mod source;
+mod waiting_theorem;
 
 pub use beside::Annotated;
-pub use laws::waiting_is_typing;
 pub use monitor::Monitor;
+pub use waiting_theorem::waiting_is_typing;

@@ -7,17 +7,17 @@ ghost use Rattle.a2_asm.specs.Assembled.{Assembled};
 ghost use Rattle.a2_machine.specs.State.{world_of_state};
 ghost use Rattle.a2_tty.specs.Turns.{RepliesTo};
 ghost use Rattle.a2_monitor.specs.Replies.{IsReply};
-ghost use Rattle.a2_monitor.specs.Sittings.{IsFreeRun, sitting_of, start_sitting};
+ghost use Rattle.a2_monitor.specs.SessionStates.{IsFreeRun, state_of_session, start_state};
 ghost use Rattle.a2_run.specs.Meaning.{IsProgramOf};
 ghost use Rattle.a2_run.specs.Started.{IsStarted, RefusesText};
-ghost use Rattle.a2_monitor_session.specs.Monitors.{IsHelp, IsBegun, IsTurnedDown};
-ghost use Rattle.a2_monitor_session.specs.Calls.{Begin, IsTold, IsCallTold, IsPressTold, ending};
+ghost use Rattle.a2_monitor_session.specs.Monitors.{IsHelp, IsBegun, IsLoadError};
+ghost use Rattle.a2_monitor_session.specs.Calls.{Begin, IsRunReported, IsCallReported, IsPressReported, ending};
 ghost use Rattle.a2_monitor_session.specs.Presses.{pressed};
 ghost use Rattle.a2_monitor_session.specs.Screens.{screen_of, screen_where};
 ghost use Rattle.a2_monitor_session.specs.declared.press.Press.TheVariants.{Key};
 
-use crate::look::{Look, put_screen};
 use crate::press::{Press, press_of};
+use crate::screen_copy::{ScreenCopy, put_screen};
 use a2_asm::Program;
 use a2_bus::Keys;
 use a2_hex::{HexFault, load_lines};
@@ -34,20 +34,20 @@ use std::marker::Model;
 // The help text: the forms of all lines.
 const HELP: &[u8] = b"300            shows the byte there
 300.30F        shows bytes
-300:A9 C1      stores bytes; :20 ED goes on behind them
-400<300.30FM   copies
-400<300.30FV   tells where bytes differ
+300:A9 C1      stores bytes; :20 ED stores more after them
+400<300.30FM   copies bytes
+400<300.30FV   shows the bytes that differ
 300L           lists 20 instructions
-300G           calls what stands there; keys that it waits for are typed
-quit, Ctrl-D   ends
+300G           calls the routine there; you type the keys it waits for
+quit, Ctrl-D   ends the session
 Numbers are hexadecimal.
 ";
 
 /// The message that a program is waiting.
-const WAITS: &[u8] = b"IT WAITS FOR A KEY; CTRL-] STOPS IT\n";
+const WAITS: &[u8] = b"WAITING FOR A KEY; CTRL-] STOPS THE RUN\n";
 
 /// The message that a key was not typed.
-const FULL: &[u8] = b"4096 KEYS WAIT\n";
+const FULL: &[u8] = b"NOT TYPED: 4096 KEYS ARE WAITING\n";
 
 /// The Monitor at a terminal: a session that answers lines, and an invalid line with the text of its error. `help`, in either
 /// case, lists the forms of lines. A run is followed by the picture of its screen, if that changed.
@@ -98,7 +98,7 @@ fn reply<A: Allocator, W: Output>(
     line: &[u8],
     writer: &mut W,
 ) -> Result<(), WriteFault>
-    ensures { RepliesTo IsReply line.now (sitting_of session.old) (sitting_of session.new)
+    ensures { RepliesTo IsReply line.now (state_of_session session.old) (state_of_session session.new)
         (W.taker writer.old) (W.taker writer.new) result }
 {
     let Err(fault) = session.line(line, writer) else {
@@ -135,7 +135,7 @@ fn with_source<A: Allocator + Copy>(alloc: A, text: &[u8]) -> Result<Loaded<A>, 
 fn with_text<A: Allocator + Copy>(alloc: A, text: &[u8]) -> Result<Loaded<A>, RunFault>
     ensures begun { IfOk result (λ loaded. IsBegun text.now
         (record { world = world_of_state loaded.machine.state; steps = loaded.machine.state.steps; next = 0 })) }
-    ensures refused { IfErr result (λ fault. IsTurnedDown text.now fault) }
+    ensures refused { IfErr result (λ fault. IsLoadError text.now fault) }
 {
     match load_lines(alloc, text) {
         Ok(image) => {
@@ -155,7 +155,7 @@ impl<'a, A: Allocator + Copy> Monitor<'a, A> {
     /// Returns the Monitor on a machine that was just switched on. Keys can be typed if there is a `keyboard`: after each
     /// answer it holds whether the next line is a key. Fails only if memory runs out.
     pub fn new(alloc: A, keyboard: Option<&'a Cell<bool>>) -> Result<Monitor<'a, A>, AllocError>
-        ensures session { IfOk result (λ monitor. sitting_of monitor.session ≡ start_sitting) }
+        ensures session { IfOk result (λ monitor. state_of_session monitor.session ≡ start_state) }
         ensures live { IfOk result (λ monitor. monitor.is_live ≡ is_some keyboard.entry) }
         ensures wait { IfOk result (λ monitor. monitor.wait ≡ None) }
     {
@@ -174,10 +174,10 @@ impl<'a, A: Allocator + Copy> Monitor<'a, A> {
         keyboard: Option<&'a Cell<bool>>,
         text: &[u8],
     ) -> Result<Monitor<'a, A>, RunFault>
-        ensures begun { IfOk result (λ monitor. IsBegun text.now (sitting_of monitor.session)) }
+        ensures begun { IfOk result (λ monitor. IsBegun text.now (state_of_session monitor.session)) }
         ensures live { IfOk result (λ monitor. monitor.is_live ≡ is_some keyboard.entry) }
         ensures wait { IfOk result (λ monitor. monitor.wait ≡ None) }
-        ensures refused { IfErr result (λ fault. IsTurnedDown text.now fault) }
+        ensures refused { IfErr result (λ fault. IsLoadError text.now fault) }
     {
         let (monitor, _) = Monitor::with_program(alloc, keyboard, text)?;
         Ok(monitor)
@@ -189,10 +189,10 @@ impl<'a, A: Allocator + Copy> Monitor<'a, A> {
         keyboard: Option<&'a Cell<bool>>,
         text: &[u8],
     ) -> Result<(Monitor<'a, A>, Option<Program<A>>), RunFault>
-        ensures begun { IfOk result (λ (monitor, _). IsBegun text.now (sitting_of monitor.session)) }
+        ensures begun { IfOk result (λ (monitor, _). IsBegun text.now (state_of_session monitor.session)) }
         ensures live { IfOk result (λ (monitor, _). monitor.is_live ≡ is_some keyboard.entry) }
         ensures wait { IfOk result (λ (monitor, _). monitor.wait ≡ None) }
-        ensures refused { IfErr result (λ fault. IsTurnedDown text.now fault) }
+        ensures refused { IfErr result (λ fault. IsLoadError text.now fault) }
     {
         let loaded = with_text(alloc, text)?;
         let monitor = Monitor {
@@ -207,18 +207,18 @@ impl<'a, A: Allocator + Copy> Monitor<'a, A> {
 /// The state before a run.
 #[derive(Drop)]
 struct Before {
-    look: Look,
+    look: ScreenCopy,
     steps: u64,
 }
 
 // The state of a session before a run.
-fn standing<A: Allocator>(session: &Session<A>) -> Before
-    ensures look { result.look ≡ screen_of (sitting_of session.now).world }
-    ensures steps { result.steps ≡ (sitting_of session.now).steps }
+fn state_before<A: Allocator>(session: &Session<A>) -> Before
+    ensures look { result.look ≡ screen_of (state_of_session session.now).world }
+    ensures steps { result.steps ≡ (state_of_session session.now).steps }
 {
     let machine = session.machine();
     Before {
-        look: Look::at(machine),
+        look: ScreenCopy::at(machine),
         steps: machine.steps(),
     }
 }
@@ -232,12 +232,12 @@ fn put_ending<A: Allocator, W: Output>(
     writer: &mut W,
 ) -> Result<(), WriteFault>
     ensures { SendsOrBreaks (W.taker writer.old) (W.taker writer.new) result
-        (ending waits notice.now (sitting_of session.now) cause) }
+        (ending waits notice.now (state_of_session session.now) cause) }
 {
     if waits {
         put(notice, writer)
     } else {
-        session.tell(cause, writer)
+        session.report_end(cause, writer)
     }
 }
 
@@ -252,7 +252,7 @@ fn put_run<A: Allocator, W: Output>(
     writer: &mut W,
 ) -> Result<(), WriteFault>
     ensures { SendsOrBreaks (W.taker writer.old) (W.taker writer.new) result
-        (screen_where is_changed (sitting_of session.now).world ++ ending waits notice.now (sitting_of session.now) cause) }
+        (screen_where is_changed (state_of_session session.now).world ++ ending waits notice.now (state_of_session session.now) cause) }
 {
     put_screen(session.machine(), is_changed, writer)?;
     put_ending(session, waits, notice, cause, writer)
@@ -269,7 +269,7 @@ fn waits_by(is_live: bool, cause: Cause) -> bool
 }
 
 // The number of steps of the limit that a waiting program has left.
-fn left_where(waits: bool, limit: u32, made: u64) -> Option<u32>
+fn steps_left_if_waiting(waits: bool, limit: u32, made: u64) -> Option<u32>
     requires { made ≤ limit }
     ensures { result ≡ (if waits then Some (limit - made) else None) }
 {
@@ -299,7 +299,7 @@ impl<A: Allocator> Monitor<'_, A> {
     }
 
     // Reports a run that has just stopped.
-    fn follow<W: Output>(
+    fn report_run<W: Output>(
         &mut self,
         before: &Before,
         limit: u32,
@@ -307,43 +307,43 @@ impl<A: Allocator> Monitor<'_, A> {
         notice: &[u8],
         writer: &mut W,
     ) -> Result<(), WriteFault>
-        requires more { before.now.steps ≤ (sitting_of self.old.session).steps }
-        requires few { (sitting_of self.old.session).steps - before.now.steps ≤ limit }
-        ensures { (begin : Begin) → before.now.look ≡ screen_of begin.sitting.world → before.now.steps ≡ begin.sitting.steps
-            → IsFreeRun begin.world limit begin.sitting (sitting_of self.old.session) cause
-            → (text : List ℕ) × IsTold begin limit notice.now self.old.is_live text self.new
+        requires more { before.now.steps ≤ (state_of_session self.old.session).steps }
+        requires few { (state_of_session self.old.session).steps - before.now.steps ≤ limit }
+        ensures { (begin : Begin) → before.now.look ≡ screen_of begin.session_state.world → before.now.steps ≡ begin.session_state.steps
+            → IsFreeRun begin.world limit begin.session_state (state_of_session self.old.session) cause
+            → (text : List ℕ) × IsRunReported begin limit notice.now self.old.is_live text self.new
             × SendsOrBreaks (W.taker writer.old) (W.taker writer.new) result text }
     {
         let machine = self.session.machine();
         let is_same = before.look.is_at(machine);
         let made = machine.steps() - before.steps;
         let waits = waits_by(self.keyboard.is_some(), cause);
-        self.note(left_where(waits, limit, made));
+        self.note(steps_left_if_waiting(waits, limit, made));
         put_run(&self.session, !is_same, waits, notice, cause, writer)
     }
 
     // Calls a program.
     fn call<W: Output>(&mut self, at: u16, writer: &mut W) -> Result<(), WriteFault>
-        ensures { (text : List ℕ) × IsCallTold at self.old text self.new
+        ensures { (text : List ℕ) × IsCallReported at self.old text self.new
             × SendsOrBreaks (W.taker writer.old) (W.taker writer.new) result text }
     {
-        let before = standing(&self.session);
+        let before = state_before(&self.session);
         let cause = self.session.call(at);
-        self.follow(&before, MONITOR_MAX_STEPS, cause, WAITS, writer)
+        self.report_run(&before, MONITOR_MAX_STEPS, cause, WAITS, writer)
     }
 
     // Types a key for a waiting program, and continues its run.
     fn type_key<W: Output>(&mut self, key: u8, limit: u32, writer: &mut W) -> Result<(), WriteFault>
         requires { key < 128 }
-        ensures { (text : List ℕ) × IsPressTold limit (Key key) self.old text self.new
+        ensures { (text : List ℕ) × IsPressReported limit (Key key) self.old text self.new
             × SendsOrBreaks (W.taker writer.old) (W.taker writer.new) result text }
     {
         if self.session.type_keys(&Keys::one(key)).is_err() {
             return put(FULL, writer);
         }
-        let before = standing(&self.session);
+        let before = state_before(&self.session);
         let cause = self.session.go_on(limit);
-        self.follow(&before, limit, cause, b"", writer)
+        self.report_run(&before, limit, cause, b"", writer)
     }
 
     // Handles a key that is pressed while a program is waiting.
@@ -353,14 +353,14 @@ impl<A: Allocator> Monitor<'_, A> {
         limit: u32,
         writer: &mut W,
     ) -> Result<(), WriteFault>
-        ensures { (text : List ℕ) × IsPressTold limit (pressed line.now) self.old text self.new
+        ensures { (text : List ℕ) × IsPressReported limit (pressed line.now) self.old text self.new
             × SendsOrBreaks (W.taker writer.old) (W.taker writer.new) result text }
     {
         match press_of(line) {
             Press::Key(key) => self.type_key(key, limit, writer),
             Press::Stop => {
                 self.note(None);
-                self.session.tell(Cause::Keys, writer)
+                self.session.report_end(Cause::Keys, writer)
             }
             Press::Nothing => Ok(()),
         }

@@ -20,7 +20,7 @@ use Rattle.a2_opcode.specs.declared.Row.{Row}
 use Rattle.a2_opcode.specs.declared.names.TheConstants.{MNEMONICS}
 use Rattle.a2_opcode.specs.declared.table.TheConstants.{ROWS, OPCODES}
 use Rattle.a2_opcode.specs.Table.{table, row, row_of, IsRowOf, IsRowFor, DistinctOpcodes, DistinctForms}
-use Rattle.a2_opcode.specs.Entries.{opcode_in_table}
+use Rattle.a2_opcode.specs.LookupArrays.{opcode_in_table}
 use Rattle.a2_opcode.proofs.Comparing.{same-key}
 
 rows_count : length table ≡ 151

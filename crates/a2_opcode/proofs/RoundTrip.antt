@@ -9,7 +9,7 @@ use Rattle.a2_opcode.specs.declared.Row.{Row}
 use Rattle.a2_opcode.specs.declared.Instr.{Instr}
 use Rattle.a2_opcode.specs.declared.Mnemonic.{Mnemonic}
 use Rattle.a2_opcode.specs.Table.{row, row_of, length_of, IsRowFor}
-use Rattle.a2_opcode.specs.Encoding.{branch_target, branch_distance, is_near, can_have, value_of, operand_bytes, encoded, decoded}
+use Rattle.a2_opcode.specs.Encoding.{branch_target, branch_distance, is_near, is_operand_value, value_of, operand_bytes, encoded, decoded}
 use Rattle.a2_opcode.proofs.Lookup.{row-is, row-own, row_of-is, row_of-own}
 
 -- the byte of a branch leads to its target
@@ -18,7 +18,7 @@ target-back : (at value : ℕ) → at < 65536 → value < 65536 → is_near (bra
 target-back at value a v h = (let few : branch_distance at value < 65536 = omega arith in grind (arith, nat_tests))
 
 -- the bytes of an operand give the value they were made from
-pub value-back : (mode : Mode) (at value : ℕ) → at < 65536 → value < 65536 → can_have mode at value ≡ true
+pub value-back : (mode : Mode) (at value : ℕ) → at < 65536 → value < 65536 → is_operand_value mode at value ≡ true
     → value_of mode at (operand_bytes mode at value) ≡ value
 value-back Relative at value a v h = target-back at value a v h
 value-back _ at value a v h = grind (arith, nat_tests)
@@ -37,7 +37,7 @@ abbrev pub encoded_by : Instr → ℕ → Option Row → Option (List ℕ)
 encoded_by i at found =
     elim found [
       | None ↦ None
-      | Some r ↦ if can_have i.mode at i.value then Some (r.opcode ∷ operand_bytes i.mode at i.value) else None
+      | Some r ↦ if is_operand_value i.mode at i.value then Some (r.opcode ∷ operand_bytes i.mode at i.value) else None
     ]
 
 abbrev pub decoded_with : ℕ → List ℕ → ℕ → Mnemonic → Mode → Option Instr
@@ -53,10 +53,10 @@ decoded_by opcode operand at found = elim found [ None ↦ None | Some r ↦ dec
 pub record Coded (i : Instr) (at : ℕ) (bytes : List ℕ) : Type 0 where
   pub row : Row
   pub row_is : IsRowFor i.mnemonic i.mode row
-  pub fits : can_have i.mode at i.value ≡ true
+  pub fits : is_operand_value i.mode at i.value ≡ true
   pub bytes_are : bytes ≡ row.opcode ∷ operand_bytes i.mode at i.value
 
-coded-test : (i : Instr) (at : ℕ) (bytes : List ℕ) (r : Row) → IsRowFor i.mnemonic i.mode r → (b : Bool) → can_have i.mode at i.value ≡ b
+coded-test : (i : Instr) (at : ℕ) (bytes : List ℕ) (r : Row) → IsRowFor i.mnemonic i.mode r → (b : Bool) → is_operand_value i.mode at i.value ≡ b
     → cond b (Some (r.opcode ∷ operand_bytes i.mode at i.value)) None ≡ Some bytes → Coded i at bytes
 coded-test i at bytes r is true fits e = record { row = r; row_is = is; fits = fits; bytes_are = cc }
 coded-test i at bytes r is false fits e = cc
@@ -65,7 +65,7 @@ coded-row : (i : Instr) (at : ℕ) (bytes : List ℕ) (found : Option Row) → r
     → encoded_by i at found ≡ Some bytes → Coded i at bytes
 coded-row i at bytes None is e = cc
 coded-row i at bytes (Some r) is e =
-    coded-test i at bytes r (row-is i.mnemonic i.mode r is) (can_have i.mode at i.value) refl e
+    coded-test i at bytes r (row-is i.mnemonic i.mode r is) (is_operand_value i.mode at i.value) refl e
 
 pub coded : (i : Instr) (at : ℕ) (bytes : List ℕ) → encoded i at ≡ Some bytes → Coded i at bytes
 unfolding encoded
@@ -90,7 +90,7 @@ branch-back at offset a b = grind (arith, nat_tests)
 
 -- the value that bytes give is one that an operand may have
 value-fits : (mode : Mode) (at : ℕ) (operand : List ℕ) → at < 65536 → slice_index operand 0 < 256
-    → can_have mode at (value_of mode at operand) ≡ true
+    → is_operand_value mode at (value_of mode at operand) ≡ true
 value-fits Relative at operand a b = branch-near at (slice_index operand 0) a b
 value-fits _ at operand a b = grind (arith, nat_tests)
 

@@ -3,7 +3,7 @@
 ghost use Rattle.std.specs.Prelude.{◌≡◌, ◌+◌, ◌%◌, ◌<◌, ◌≤◌, true, false, None, Some, [], ◌∷◌, ◌++◌, length, take, slice_index, IfSome, MatchOption};
 ghost use Rattle.arrayvec.specs.ArrayVec.{array_vec_len};
 ghost use Rattle.a2_opcode.specs.Table.{length_of};
-ghost use Rattle.a2_opcode.specs.Encoding.{encoded, decoded, can_have, operand_bytes, value_of, branch_distance, is_near, IsFetchedFrom};
+ghost use Rattle.a2_opcode.specs.Encoding.{encoded, decoded, is_operand_value, operand_bytes, value_of, branch_distance, is_near, IsFetchedFrom};
 ghost use Rattle.a2_opcode.specs.Encoding.{branch_target as branch_target_of};
 
 use crate::{Instr, Mode, row_for, row_of};
@@ -78,8 +78,8 @@ fn joined(opcode: u8, operand: &[u8]) -> ArrayVec<u8, 3>
 
 // Returns an opcode followed by the bytes of an operand's value, if the operand may have that value.
 fn with_operand(opcode: u8, mode: Mode, address: u16, value: u16) -> Option<ArrayVec<u8, 3>>
-    ensures { MatchOption result (can_have mode address value ≡ false)
-        (λ b. (can_have mode address value ≡ true) × (b.items ≡ opcode ∷ operand_bytes mode address value)) }
+    ensures { MatchOption result (is_operand_value mode address value ≡ false)
+        (λ b. (is_operand_value mode address value ≡ true) × (b.items ≡ opcode ∷ operand_bytes mode address value)) }
 {
     match mode {
         Mode::Implied | Mode::Accumulator if value == 0 => Some(joined(opcode, &[])),

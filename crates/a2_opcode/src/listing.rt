@@ -4,7 +4,7 @@ ghost use Rattle.std.specs.Prelude.{◌≡◌, ℕ, ◌+◌, ◌-◌, ◌*◌, �
 ghost use Rattle.std.specs.List.{join_with_byte};
 ghost use Rattle.arrayvec.specs.ArrayString.{array_string_len};
 ghost use Rattle.a2_text.specs.Digits.{hex_pair as hex_pair_of, hex_word as hex_word_of};
-ghost use Rattle.a2_opcode.specs.Encoding.{can_have};
+ghost use Rattle.a2_opcode.specs.Encoding.{is_operand_value};
 ghost use Rattle.a2_opcode.specs.Listing.{operand_column, columns_before, listing, listing_length};
 
 use crate::{Listed, Mode, decode};
@@ -104,7 +104,7 @@ fn put_word_between(text: &mut ArrayString<32>, before: &str, value: u16, after:
 
 // Appends three blanks and the operand, if there is one.
 fn put_operand(text: &mut ArrayString<32>, mode: Mode, value: u16)
-    requires fits { (at : ℕ) × (can_have mode at value ≡ true) }
+    requires fits { (at : ℕ) × (is_operand_value mode at value ≡ true) }
     requires room { array_string_len text.old + 10 ≤ 32 }
     ensures { text.new.bytes ≡ text.old.bytes ++ operand_column mode value }
 {

@@ -4,7 +4,7 @@ ghost use Rattle.std.specs.Prelude.{◌≡◌, ◌<◌, map, Some, IfSome};
 ghost use Rattle.a2_text.specs.Bytes.{capital as capital_of};
 ghost use Rattle.a2_opcode.specs.declared.Mnemonic.{Mnemonic as DeclaredMnemonic};
 ghost use Rattle.a2_opcode.specs.Names.{name_of};
-ghost use Rattle.a2_opcode.specs.Entries.{place_by};
+ghost use Rattle.a2_opcode.specs.LookupArrays.{index_by_letters};
 
 use crate::Mnemonic;
 use a2_text::capital;
@@ -20,9 +20,9 @@ static MNEMONICS: [Mnemonic; 56] = mnemonics!(
     Rts Sbc Sec Sed Sei Sta Stx Sty Tax Tay Tsx Txa Txs Tya
 );
 
-// The index of the mnemonic among all of them, for each weight that `place_of` computes from its letters. No two
+// The index of the mnemonic among all of them, for each weight that `mnemonic_index` computes from its letters. No two
 // mnemonics have the same weight. A weight of no mnemonic has index 0.
-static PLACES: [u8; 256] = [
+static INDEX_BY_WEIGHT: [u8; 256] = [
     0, 0, 0, 0, 0, 0, 0, 0, 0, 0, 0, 0, 0, 0, 0, 41, 0, 0, 0, 20, 0, 0, 0, 0, 0, 0, 0, 0, 0, 0, 0,
     0, 0, 0, 0, 4, 0, 0, 0, 0, 0, 0, 0, 53, 0, 42, 0, 0, 0, 5, 0, 29, 0, 55, 0, 0, 0, 0, 0, 0, 0,
     0, 52, 0, 0, 0, 48, 0, 0, 49, 0, 0, 0, 0, 0, 0, 0, 0, 0, 43, 0, 0, 21, 13, 0, 22, 14, 0, 0, 0,
@@ -35,13 +35,13 @@ static PLACES: [u8; 256] = [
 ];
 
 // Returns the index of the only mnemonic that may have these letters.
-fn place_of(letters: [u8; 3]) -> usize
-    ensures is { result ≡ place_by letters }
+fn mnemonic_index(letters: [u8; 3]) -> usize
+    ensures is { result ≡ index_by_letters letters }
     ensures within { result < 56 }
 {
     let [a, b, c] = letters;
     let weight = 6 * usize::from(a) + 10 * usize::from(b) + 3 * usize::from(c);
-    usize::from(PLACES[weight % 256])
+    usize::from(INDEX_BY_WEIGHT[weight % 256])
 }
 
 // Returns the mnemonic whose name is these capital letters.
@@ -49,7 +49,7 @@ fn spelled(letters: [u8; 3]) -> Option<Mnemonic>
     ensures found { IfSome result (λ m. name_of m ≡ letters) }
     ensures only { (m : DeclaredMnemonic) → name_of m ≡ letters → result ≡ Some m }
 {
-    let mnemonic = MNEMONICS[place_of(letters)];
+    let mnemonic = MNEMONICS[mnemonic_index(letters)];
     if mnemonic.name().as_bytes() == letters.as_slice() {
         Some(mnemonic)
     } else {

@@ -35,15 +35,15 @@ pub fn cell(address: u16) -> Option<(Page, u8, u8)>
     ensures { result ≡ option_map (λ cell. (cell.page, cell.row, cell.column)) (cell_at address) }
 {
     match address {
-        0x400..=0x7FF => cell_behind(Page::One, address - 0x400),
-        0x800..=0xBFF => cell_behind(Page::Two, address - 0x800),
+        0x400..=0x7FF => cell_at_offset(Page::One, address - 0x400),
+        0x800..=0xBFF => cell_at_offset(Page::Two, address - 0x800),
         _ => None,
     }
 }
 
 // Returns the cell at this offset from the start of a page.
-#[tactic(auto, using(crate::proofs::CellAt::found_behind, crate::proofs::CellAt::gap_behind))]
-fn cell_behind(page: Page, offset: u16) -> Option<(Page, u8, u8)>
+#[tactic(auto, using(crate::proofs::CellAt::cell_found_at_offset, crate::proofs::CellAt::gap_found_at_offset))]
+fn cell_at_offset(page: Page, offset: u16) -> Option<(Page, u8, u8)>
     requires { offset < 1024 }
     ensures { result ≡ option_map (λ cell. (cell.page, cell.row, cell.column)) (cell_at (base_of page + offset)) }
 {

@@ -5,7 +5,7 @@ ghost use Rattle.a2_stream.specs.Stream.{SendsOrBreaks};
 ghost use Rattle.a2_page.specs.Kept.{FitsPage, IsStale, IsCompared, is_row_marked, with_row_marked, after_switch, after_refresh, marked_rows};
 ghost use Rattle.a2_page.specs.Grid.{Grid};
 ghost use Rattle.a2_page.specs.Picture.{page_grid, picture, attribute_rows, shown_by};
-ghost use Rattle.a2_page.specs.Told.{ToldPicturesFit};
+ghost use Rattle.a2_page.specs.Notified.{NotifiedPicturesFit};
 
 use crate::View;
 use crate::cells::{cell, row_offset};
@@ -50,7 +50,7 @@ fn has_same_row(page: &[u8; 1024], other: &[u8; 1024], row: u8) -> bool
 }
 
 impl Picture {
-    /// Returns a picture with every row marked. It fits any page, and [`told_pictures_fit`] applies to it.
+    /// Returns a picture with every row marked. It fits any page, and [`notified_pictures_fit`] applies to it.
     pub fn new() -> Picture
         ensures marked { (row : ℕ) → row < 24 → is_row_marked result row ≡ true }
         ensures fits { (page : Grid) → FitsPage result page }
@@ -181,6 +181,6 @@ impl Picture {
 /// A law: a picture that fits still fits after any changes, if `stored` reports each store to it and `switched` each
 /// change of the switches. This holds for any stores and any settings of the switches, in any order. So the picture
 /// prints what [`print`](crate::print) prints. The call does nothing.
-pub fn told_pictures_fit()
-    ensures { ToldPicturesFit }
+pub fn notified_pictures_fit()
+    ensures { NotifiedPicturesFit }
 {}

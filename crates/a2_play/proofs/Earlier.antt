@@ -18,7 +18,7 @@ use Rattle.a2_timed_keys.specs.Typed.{typed, keys_at, world_before_keys, world_w
 use Rattle.a2_timed_keys.proofs.Worlds.{waiting, typed-nil, world-typed as with-typed}
 use Rattle.a2_play.specs.Played.{IsPlayed, NoneAbove, Fits, code_of_play, start, world_with_keys}
 use Rattle.a2_play.specs.Backs.{typed_before}
-use Rattle.a2_play.specs.Agains.{IsAgain, world_before}
+use Rattle.a2_play.specs.Agains.{IsReplaying, world_before}
 use Rattle.a2_play.proofs.Runs.{two}
 use Rattle.a2_play.proofs.Worlds.{before-same}
 
@@ -62,8 +62,8 @@ keys-before (t ∷ ts) m k l = go (nat_lt t.steps m) refl (keys-before ts m k l)
         → keys_at (if b then t ∷ typed_before m ts else typed_before m ts) k ≡ (if t.steps == k then t.key ∷ keys_at ts k else keys_at ts k)
     go true e rest = ap (λ ks. if t.steps == k then t.key ∷ ks else ks) rest
     go false e rest =
-        let behind : m ≤ t.steps = grind (arith, nat_tests, e) in
-        rest ∙ sym (cond-false _ _ _ (ne_eqb t.steps k (λ h. omega (arith, h, behind, l))))
+        let following : m ≤ t.steps = grind (arith, nat_tests, e) in
+        rest ∙ sym (cond-false _ _ _ (ne_eqb t.steps k (λ h. omega (arith, h, following, l))))
 
 keys-none : (log : List Typed) (m k : ℕ) → m ≤ k → keys_at (typed_before m log) k ≡ []
 keys-none [] m k l = refl
@@ -103,7 +103,7 @@ module _ (program : Assembled) (log : List Typed) (m : ℕ) where
       ∙ world-same m (omega arith)
 
 -- a play that went back
-pub played_back : (program : Assembled) (log : List Typed) (last : ℕ) (machine : Device) → IsAgain program log last machine.state
+pub played_back : (program : Assembled) (log : List Typed) (last : ℕ) (machine : Device) → IsReplaying program log last machine.state
     → IsPlayed program (record { machine = machine; log = typed_before machine.state.steps log })
 played_back program log last machine again = record {
   holds = again.holds ∙ sym (with-here program log machine.state.steps);

@@ -15,8 +15,8 @@ use Rattle.a2_timed_keys.proofs.Keys.{keys_at-more, keys_at-front, keys_at-here,
 use Rattle.a2_timed_keys.proofs.Running.{keys_hold}
 use Rattle.a2_timed_keys.proofs.Worlds.{waiting, waiting-typed, world-typed, before-more}
 use Rattle.a2_play.specs.Played.{IsPlayed, machine_after, code_of_play, start, world_with_keys}
-use Rattle.a2_play.specs.Backs.{IsBack, typed_before}
-use Rattle.a2_play.specs.Agains.{HasRoom, IsAgain, IsSlower, IsSought, world_before}
+use Rattle.a2_play.specs.Backs.{WentBack, typed_before}
+use Rattle.a2_play.specs.Agains.{HasRoom, IsReplaying, HasFewerCycles, IsFoundBySearch, world_before}
 use Rattle.a2_play.proofs.Runs.{code_is, two, waiting_is}
 use Rattle.a2_play.proofs.Earlier.{cycles-before, cycles-later, played_back}
 
@@ -73,7 +73,7 @@ room_more log i n d old m low was room = go room
 -- the start
 pub again_start : (program : Assembled) (play : Device) (log : List Typed) (machine : Device) → IsPlayed program (record { machine = play; log = log })
     → world_of_state machine.state ≡ start program → machine.state.steps ≡ 0 → machine.state.guard ≡ Some (guard_of_program program)
-    → IsAgain program log play.state.steps machine.state
+    → IsReplaying program log play.state.steps machine.state
 unfolding world_before_keys
 again_start program play log machine at world steps guarded = record {
   codes = at.codes;
@@ -86,7 +86,7 @@ again_start program play log machine at world steps guarded = record {
 }
 
 -- The keys of a position have room when it is reached again.
-pub again_room : (program : Assembled) (log : List Typed) (last : ℕ) (old : Device) → IsAgain program log last old.state
+pub again_room : (program : Assembled) (log : List Typed) (last : ℕ) (old : Device) → IsReplaying program log last old.state
     → HasRoom (keys_at log old.state.steps) old
 again_room program log last old at = go (at.fits old.state.steps)
   where
@@ -103,7 +103,7 @@ again_room program log last old at = go (at.fits old.state.steps)
 
 -- The keys of a position are typed, then steps are run with no keys typed during them.
 module _ (program : Assembled) (log : List Typed) (last end until limit : ℕ) (old keyed new : Device) (cause : Cause)
-    (at : IsAgain program log last old.state) (inside : end ≤ last)
+    (at : IsReplaying program log last old.state) (inside : end ≤ last)
     (is_keyed : keyed ≡ with_keys (keys_at log old.state.steps) old)
     (more : old.state.steps < until) (within : until ≤ end)
     (none : (k : ℕ) → old.state.steps < k → k < until → keys_at log k ≡ [])
@@ -162,7 +162,7 @@ module _ (program : Assembled) (log : List Typed) (last end until limit : ℕ) (
       ∙ ap (λ n. world_at (code_of_play program) (world_with_keys program log old.state.steps) n) whole
       ∙ sym (before-more (code_of_play program) (start program) log old.state.steps j new.state.steps is (λ k l h. none k l (omega (arith, h, few))))
 
-  pub again_on : IsAgain program log last new.state × (old.state.steps < new.state.steps) × (new.state.steps ≤ end)
+  pub again_on : IsReplaying program log last new.state × (old.state.steps < new.state.steps) × (new.state.steps ≤ end)
   again_on = (
     record {
       codes = at.codes;
@@ -179,18 +179,18 @@ module _ (program : Assembled) (log : List Typed) (last end until limit : ℕ) (
 
 -- the state of a machine during a search
 pub record IsSeeking (program : Assembled) (log : List Typed) (goal end piece made before : ℕ) (state : MachineState) : Type 0 where
-  pub again : IsAgain program log end state
+  pub again : IsReplaying program log end state
   pub index : made ≤ state.steps
   pub ahead : before ≤ state.steps
   pub near : state.steps ≤ before + piece
   pub slower : (k : ℕ) → k ≤ before → k < state.steps → (world_with_keys program log k).cycles < goal
 
-cycles-of : (program : Assembled) (log : List Typed) (last : ℕ) (state : MachineState) → IsAgain program log last state
+cycles-of : (program : Assembled) (log : List Typed) (last : ℕ) (state : MachineState) → IsReplaying program log last state
     → (world_with_keys program log state.steps).cycles ≡ state.cycles
 cycles-of program log last state at = cycles-before program log state.steps ∙ sym (ap (λ (w : World). w.cycles) at.holds)
 
-pub seeking_start : (program : Assembled) (log : List Typed) (goal end piece : ℕ) (state : MachineState) → IsAgain program log end state
-    → IsSlower program log goal state.steps → IsSeeking program log goal end piece state.steps state.steps state
+pub seeking_start : (program : Assembled) (log : List Typed) (goal end piece : ℕ) (state : MachineState) → IsReplaying program log end state
+    → HasFewerCycles program log goal state.steps → IsSeeking program log goal end piece state.steps state.steps state
 seeking_start program log goal end piece state at slower = record {
   again = at;
   index = omega arith;
@@ -201,7 +201,7 @@ seeking_start program log goal end piece state at slower = record {
 
 -- Until the cycles have passed, another piece is run.
 pub seeking_on : (program : Assembled) (log : List Typed) (goal end piece made before : ℕ) (old new : MachineState)
-    → IsSeeking program log goal end piece made before old → old.cycles < goal → IsAgain program log end new → old.steps < new.steps
+    → IsSeeking program log goal end piece made before old → old.cycles < goal → IsReplaying program log end new → old.steps < new.steps
     → new.steps ≤ old.steps + piece → IsSeeking program log goal end piece (made + 1) old.steps new
 seeking_on program log goal end piece made before old new seeking slow again on near = record {
   again = again;
@@ -219,7 +219,7 @@ seeking_on program log goal end piece made before old new seeking slow again on 
 -- The search ends when the cycles have passed, or at the end.
 pub sought : (program : Assembled) (log : List Typed) (goal end piece made before : ℕ) (state : MachineState)
     → IsSeeking program log goal end piece made before state → goal ≤ (world_with_keys program log end).cycles
-    → (end ≤ state.steps) ⊎ (goal ≤ state.cycles) → IsSought program log goal end piece before state
+    → (end ≤ state.steps) ⊎ (goal ≤ state.cycles) → IsFoundBySearch program log goal end piece before state
 sought program log goal end piece made before state seeking enough found = record {
   again = seeking.again;
   ahead = seeking.ahead;
@@ -237,13 +237,13 @@ sought program log goal end piece made before state seeking enough found = recor
 -- the contract of the calls that seek and bring
 abbrev pub Seeks : List Typed → ℕ → ℕ → ℕ → ℕ → MachineState → MachineState → Type 0
 Seeks log goal end piece before old new =
-    (program : Assembled) → IsAgain program log end old → IsSlower program log goal old.steps → goal ≤ (world_with_keys program log end).cycles
-    → IsSought program log goal end piece before new
+    (program : Assembled) → IsReplaying program log end old → HasFewerCycles program log goal old.steps → goal ≤ (world_with_keys program log end).cycles
+    → IsFoundBySearch program log goal end piece before new
 
 abbrev pub Brings : List Typed → ℕ → MachineState → MachineState → Type 0
 Brings log position old new =
-    (program : Assembled) (last : ℕ) → IsAgain program log last old → position ≤ last → old.steps ≤ position
-    → IsAgain program log last new × (new.steps ≡ position)
+    (program : Assembled) (last : ℕ) → IsReplaying program log last old → position ≤ last → old.steps ≤ position
+    → IsReplaying program log last new × (new.steps ≡ position)
 
 -- a machine at the start
 pub record IsBegun (program : Assembled) (state : MachineState) : Type 0 where
@@ -253,32 +253,32 @@ pub record IsBegun (program : Assembled) (state : MachineState) : Type 0 where
 
 -- A play goes back: the run is searched in pieces from the start, brought to the last piece, and searched there step
 -- by step.
-module _ (program : Assembled) (old first near second brought new : Device) (log : List Typed) (cycles goal before behind : ℕ)
+module _ (program : Assembled) (old first near second brought new : Device) (log : List Typed) (cycles goal before following : ℕ)
     (at : IsPlayed program (record { machine = old; log = log }))
     (is_goal : goal ≡ old.state.cycles - cycles)
     (begun : IsBegun program first.state) (again : IsBegun program second.state)
     (seeks : Seeks log goal old.state.steps 4096 before first.state near.state)
     (brings : Brings log before second.state brought.state)
-    (steps : Seeks log goal old.state.steps 1 behind brought.state new.state) where
-  begins : (machine : Device) → IsBegun program machine.state → IsAgain program log old.state.steps machine.state
+    (steps : Seeks log goal old.state.steps 1 following brought.state new.state) where
+  begins : (machine : Device) → IsBegun program machine.state → IsReplaying program log old.state.steps machine.state
   begins machine is = again_start program old log machine at is.world is.steps is.guard
 
   enough : goal ≤ (world_with_keys program log old.state.steps).cycles
   enough = omega (arith, is_goal, ap (λ (w : World). w.cycles) at.holds)
 
-  piece : IsSought program log goal old.state.steps 4096 before near.state
+  piece : IsFoundBySearch program log goal old.state.steps 4096 before near.state
   piece = seeks program (begins first begun) (λ k l. absurd (omega (arith, l, begun.steps))) enough
 
-  there : IsAgain program log old.state.steps brought.state × (brought.state.steps ≡ before)
+  there : IsReplaying program log old.state.steps brought.state × (brought.state.steps ≡ before)
   there =
       brings program old.state.steps (begins second again) (omega (arith, piece.ahead, piece.again.within)) (omega (arith, again.steps))
 
-  found : IsSought program log goal old.state.steps 1 behind new.state
+  found : IsFoundBySearch program log goal old.state.steps 1 following new.state
   found =
       steps program there.0 (λ k l. piece.slower k (omega (arith, l, there.1)) (omega (arith, l, there.1, piece.ahead))) enough
 
   pub is_back : (after : List Typed) (position : ℕ) → position ≡ new.state.steps → after ≡ typed_before position log
-      → IsBack program cycles (record { machine = old; log = log }) (record { machine = new; log = after })
+      → WentBack program cycles (record { machine = old; log = log }) (record { machine = new; log = after })
   is_back after position e kept = record {
     within = found.again.within;
     near = omega (arith, found.reached, is_goal);

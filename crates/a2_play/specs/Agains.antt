@@ -18,7 +18,7 @@ abbrev pub world_before : Assembled → List Typed → ℕ → World
 world_before program log n = world_before_keys (code_of_play program) (start program) log n
 
 -- a machine is in the replay of a run that reached a last position, before the keys of the current position are typed
-pub record IsAgain (program : Assembled) (log : List Typed) (last : ℕ) (state : MachineState) : Type 0 where
+pub record IsReplaying (program : Assembled) (log : List Typed) (last : ℕ) (state : MachineState) : Type 0 where
   pub codes : All (λ t. t.key < 128) log
   pub fits : (k : ℕ) → Fits program log k
   pub went : (k : ℕ) → k < last → stuck (code_of_play program) (world_with_keys program log k) ≡ None
@@ -28,12 +28,12 @@ pub record IsAgain (program : Assembled) (log : List Typed) (last : ℕ) (state 
   pub within : state.steps ≤ last
 
 -- after each smaller number of steps, fewer than `goal` cycles had passed
-abbrev pub IsSlower : Assembled → List Typed → ℕ → ℕ → Type 0
-IsSlower program log goal n = (k : ℕ) → k < n → (world_with_keys program log k).cycles < goal
+abbrev pub HasFewerCycles : Assembled → List Typed → ℕ → ℕ → Type 0
+HasFewerCycles program log goal n = (k : ℕ) → k < n → (world_with_keys program log k).cycles < goal
 
 -- `goal` cycles have passed, within the piece that began at a position before which they had not
-pub record IsSought (program : Assembled) (log : List Typed) (goal end piece before : ℕ) (state : MachineState) : Type 0 where
-  pub again : IsAgain program log end state
+pub record IsFoundBySearch (program : Assembled) (log : List Typed) (goal end piece before : ℕ) (state : MachineState) : Type 0 where
+  pub again : IsReplaying program log end state
   pub ahead : before ≤ state.steps
   pub near : state.steps ≤ before + piece
   pub reached : goal ≤ state.cycles

@@ -10,7 +10,7 @@ typed_before position log = filter (λ t. nat_lt t.steps position) log
 
 -- The play is at the first position that is at most this many cycles before the old one, and keys that were typed
 -- from there on are forgotten.
-pub record IsBack (program : Assembled) (cycles : ℕ) (old new : Play) : Type 0 where
+pub record WentBack (program : Assembled) (cycles : ℕ) (old new : Play) : Type 0 where
   pub within : new.machine.state.steps ≤ old.machine.state.steps
   pub near : old.machine.state.cycles - cycles ≤ new.machine.state.cycles
   pub first : (k : ℕ) → k < new.machine.state.steps → (world_with_keys program old.log k).cycles < old.machine.state.cycles - cycles

@@ -50,7 +50,7 @@ pub record IsPlayed (program : Assembled) (play : Play) : Type 0 where
   pub fits : (k : ℕ) → Fits program play.log k
 
 -- a program and a play of it
-pub record Sitting : Type 0 where
+pub record PlayedProgram : Type 0 where
   pub program : Assembled
   pub play : Play
 

@@ -6,18 +6,18 @@
 
 ghost use Rattle.a2_play.specs.Replays.{ReplayIsPlay};
 
-mod again;
 mod clock;
 mod pace;
 mod panel;
 mod player;
 mod record;
+mod replayed_run;
 mod session;
 mod spelling;
 
 pub use clock::Clock;
 pub use pace::{Pace, due, second};
-pub use panel::Room;
+pub use panel::TerminalSize;
 pub use player::Player;
 pub use record::{Record, RecordFault, put_record, record_of};
 pub use session::{Leave, Session, play};

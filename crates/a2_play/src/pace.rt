@@ -18,7 +18,7 @@ const STRETCH: u64 = 1_000_000;
 pub(crate) const SECOND: u64 = 1_000_000;
 
 /// The longest delay that is made up for at once, in microseconds.
-const MOST_LATE: u64 = 250_000;
+const MAX_DELAY: u64 = 250_000;
 
 /// How fast a machine runs.
 #[derive(Clone, Copy, Debug, PartialEq, Eq)]
@@ -74,7 +74,7 @@ pub fn due(pace: Pace, micros: u64) -> u64
     ensures { result ≡ paces.due pace micros }
 {
     match pace {
-        Pace::Cycles(cycles) => u64::from(cycles) * micros.min(MOST_LATE) / SECOND,
+        Pace::Cycles(cycles) => u64::from(cycles) * micros.min(MAX_DELAY) / SECOND,
         Pace::Max => STRETCH,
     }
 }

@@ -24,7 +24,7 @@ pub enum State {
 
 /// What the panel shows.
 #[derive(Clone, Copy, Debug, PartialEq, Eq)]
-pub struct Face {
+pub struct PanelContents {
     pub state: State,
     pub pace: Pace,
     /// The cycles run in the last second.
@@ -36,7 +36,7 @@ pub struct Face {
 
 /// The rows and columns of the terminal, at least 24 and 80.
 #[derive(Clone, Copy, Debug, PartialEq, Eq)]
-pub struct Room {
+pub struct TerminalSize {
     pub rows: u16,
     pub columns: u16,
 }
@@ -44,7 +44,7 @@ pub struct Room {
 /// The first column of the panel's rows, and the number of columns that they leave free.
 const COLUMN: &[u8] = b";43H\x1B[0m";
 
-const BESIDE: u16 = 44;
+const COLUMNS_LEFT_FREE: u16 = 44;
 
 /// The columns of the registers. Text is broken there, so that the counts after them have a row of their own.
 const REGISTERS: usize = 33;
@@ -78,23 +78,23 @@ const MOST_ROWS: u16 = 64;
 
 const ORDERS: [&[u8]; 10] = [
     b"Ctrl-] q  quits",
-    b"Ctrl-] p  halts, and goes on",
-    b"Ctrl-] s  makes one step",
-    b"Ctrl-] b  goes back a second",
-    b"Ctrl-] d  goes into the debugger",
-    b"Ctrl-] +  goes faster",
-    b"Ctrl-] -  goes slower",
-    b"Ctrl-] r  begins again",
-    b"Ctrl-] k  tells the keys at the end",
-    b"Ctrl-] l  draws all again",
+    b"Ctrl-] p  pauses or continues",
+    b"Ctrl-] s  executes one step",
+    b"Ctrl-] b  goes back one second",
+    b"Ctrl-] d  opens the debugger",
+    b"Ctrl-] +  runs faster",
+    b"Ctrl-] -  runs slower",
+    b"Ctrl-] r  starts again",
+    b"Ctrl-] k  prints the keys at the end",
+    b"Ctrl-] l  redraws everything",
 ];
 
-impl Room {
+impl TerminalSize {
     // Returns the width of the panel's rows, in columns.
     fn width(self) -> usize {
         usize::from(
             self.columns
-                .saturating_sub(BESIDE)
+                .saturating_sub(COLUMNS_LEFT_FREE)
                 .clamp(LEAST_WIDTH, MOST_WIDTH),
         )
     }
@@ -130,9 +130,9 @@ fn put_rows<W: Output>(
 ) -> Result<(), WriteFault> {
     let mut rest = text.trim_ascii();
     for row in rows {
-        let (front, behind) = rest.split_at(rest.len().min(width));
+        let (front, following) = rest.split_at(rest.len().min(width));
         put_row(row, front, writer)?;
-        rest = behind;
+        rest = following;
     }
     Ok(())
 }
@@ -140,15 +140,15 @@ fn put_rows<W: Output>(
 // Returns the name of a state.
 fn state_text(state: State) -> &'static [u8] {
     match state {
-        State::Going => b"it runs",
-        State::Waiting => b"it waits for a key",
-        State::Paused => b"halted",
-        State::Stopped(_) => b"stopped: RETURN ends, Ctrl-] r begins",
+        State::Going => b"running",
+        State::Waiting => b"waiting for a key",
+        State::Paused => b"paused",
+        State::Stopped(_) => b"stopped: press Return to quit",
     }
 }
 
 // Returns the text below the registers: the message about the last command, or what can be done after a stop.
-fn notice_text(face: &Face) -> &'static [u8] {
+fn notice_text(face: &PanelContents) -> &'static [u8] {
     match (face.notice, face.state) {
         (Some(notice), _) => notice,
         (None, State::Stopped(_)) => b"Ctrl-] b goes back, Ctrl-] d debugs",
@@ -168,12 +168,12 @@ fn put_cycles<W: Output>(
 }
 
 // Writes the pace, and how fast the machine ran.
-fn put_pace<W: Output>(face: &Face, writer: &mut W) -> Result<(), WriteFault> {
+fn put_pace<W: Output>(face: &PanelContents, writer: &mut W) -> Result<(), WriteFault> {
     match face.pace {
         Pace::Cycles(cycles) => {
-            put_cycles(PACE_ROW, u64::from(cycles), b" cycles a second", writer)?
+            put_cycles(PACE_ROW, u64::from(cycles), b" cycles per second", writer)?
         }
-        Pace::Max => put_row(PACE_ROW, b"as fast as it goes", writer)?,
+        Pace::Max => put_row(PACE_ROW, b"as fast as possible", writer)?,
     }
     put_cycles(SPEED_ROW, face.speed, b" in the last second", writer)
 }
@@ -191,9 +191,9 @@ pub fn put_counts<A: Allocator, W: Output>(
 
 /// Writes the panel beside the screen, except for the counts. `told` explains a stop.
 pub fn put_panel<W: Output>(
-    face: &Face,
+    face: &PanelContents,
     told: &[u8],
-    room: Room,
+    room: TerminalSize,
     writer: &mut W,
 ) -> Result<(), WriteFault> {
     put_row(1, b"a2lab play", writer)?;
@@ -203,7 +203,7 @@ pub fn put_panel<W: Output>(
         put_row(row, order, writer)?;
     }
     let saved: &[u8] = if face.saves {
-        b"the keys are told at the end"
+        b"keys will be printed at the end"
     } else {
         b""
     };

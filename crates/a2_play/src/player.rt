@@ -2,10 +2,10 @@
 
 ghost use Rattle.std.specs.Prelude.{◌≡◌, ◌↔◌, true, ◌<◌, ◌++◌, ◌∷◌, [], length, vec_len, vec_capacity, IfOk, IfErr};
 ghost use Rattle.a2_asm.specs.Assembled.{Assembled};
-ghost use Rattle.a2_play.specs.Backs.{IsBack};
+ghost use Rattle.a2_play.specs.Backs.{WentBack};
 ghost use Rattle.a2_play.specs.Played.{IsPlayed, IsStuckBy, after_key};
 
-use crate::again::{begin, bring, seek, type_at};
+use crate::replayed_run::{begin, bring, seek, type_at};
 use a2_asm::Program;
 use a2_cpu::Breakpoints;
 use a2_machine::{Cause, Machine, Stop};
@@ -196,7 +196,7 @@ impl<A: Allocator> Player<A> {
     /// start.
     pub fn go_back(&mut self, program: &Program<A>, cycles: u64)
         requires { IsPlayed program.now self.old }
-        ensures back { IsBack program.now cycles self.old self.new }
+        ensures back { WentBack program.now cycles self.old self.new }
         ensures played { IsPlayed program.now self.new }
     {
         let end = self.machine.steps();
@@ -230,7 +230,7 @@ impl<A: Allocator> Player<A> {
     }
 
     // Runs to the position of a key and types it there. Returns whether that was possible.
-    fn type_again(&mut self, typed: Typed) -> Result<bool, AllocError>
+    fn retype_key(&mut self, typed: Typed) -> Result<bool, AllocError>
         ensures typed { IfOk result (λ is_typed. is_typed ≡ true → self.new.log ≡ self.old.log ++ typed ∷ []) }
         ensures played { (program : Assembled) → IsPlayed program self.old → IsPlayed program self.new }
     {
@@ -249,7 +249,7 @@ impl<A: Allocator> Player<A> {
         ensures played { (program : Assembled) → IsPlayed program self.old → IsPlayed program self.new }
     {
         for typed in log {
-            if !self.type_again(*typed)? {
+            if !self.retype_key(*typed)? {
                 return Ok(false);
             }
         }

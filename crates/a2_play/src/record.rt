@@ -88,9 +88,9 @@ fn key_in(word: &[u8]) -> Option<u8>
 
 // Returns the two fields of a line.
 fn two_words(line: &[u8]) -> Option<(&[u8], &[u8])> {
-    let (first, behind) = first_word(line)?;
-    let (second, behind) = first_word(behind)?;
-    match first_word(behind) {
+    let (first, following) = first_word(line)?;
+    let (second, following) = first_word(following)?;
+    match first_word(following) {
         Some(_) => None,
         None => Some((first, second)),
     }

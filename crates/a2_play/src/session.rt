@@ -6,12 +6,11 @@ ghost use Rattle.a2_play.specs.Played.{IsPlayed};
 
 use crate::Clock;
 use crate::pace::{Pace, SECOND, due, second};
-use crate::panel::{Face, Room, State, put_counts, put_panel};
+use crate::panel::{PanelContents, State, TerminalSize, put_counts, put_panel};
 use crate::player::Player;
-use a2_asm::Program;
-use a2_explain::tell_stop;
+use a2_explain::report_stop;
 use a2_machine::Cause;
-use a2_run::RunFault;
+use a2_run::{AssembledText, RunFault};
 use a2_stream::{Input, Output, ToWrite, put};
 use a2_tty::{Colours, Order, Shot, Stroke, first_stroke, put_changes};
 use std::alloc::Global;
@@ -24,7 +23,7 @@ const FRAME: u64 = 33_333;
 const BLINK: u64 = 500_000;
 
 /// The time over which the speed is measured.
-const TOLD_OVER: u64 = SECOND;
+const SPEED_PERIOD: u64 = SECOND;
 
 /// The largest number of stretches of cycles between two checks for keys at `Pace::Max`.
 const MOST_STRETCHES: u32 = 10_000;
@@ -57,13 +56,12 @@ struct Mark {
 /// A session with a program and its source. Contracts see the program, the machine, and the keys that were typed. The
 /// machine is always where the program's meaning leads with these keys, each typed after its number of steps.
 pub struct Session<'a> {
-    source: &'a [u8],
-    program: &'a Program,
+    assembled: &'a AssembledText<'a>,
     player: Player,
     state: State,
     pace: Pace,
     colours: Colours,
-    room: Room,
+    room: TerminalSize,
     /// The cycles that are due since the start.
     goal: u64,
     /// The times when these were last computed, and when the screen was last drawn.
@@ -78,7 +76,7 @@ pub struct Session<'a> {
     rings: bool,
     notice: Option<&'static [u8]>,
     shot: Option<Shot>,
-    face: Option<Face>,
+    face: Option<PanelContents>,
     /// The number of steps for which the counts were last drawn.
     counted: Option<u64>,
 }
@@ -87,8 +85,7 @@ pub struct Session<'a> {
 impl<'a> Drop for Session<'a> {
     fn drop(self) {
         let Session {
-            source: _,
-            program: _,
+            assembled: _,
             player: _,
             state: _,
             pace: _,
@@ -112,31 +109,29 @@ impl<'a> Drop for Session<'a> {
 }
 
 impl<'a> Model for Session<'a> {
-    ghost use Rattle.a2_play.specs.Played.{Sitting, IsPlayed};
+    ghost use Rattle.a2_play.specs.Played.{PlayedProgram, IsPlayed};
 
-    ghost Value = { Sitting };
+    ghost Value = { PlayedProgram };
 
-    ghost view = { λ s. record { program = s.program.now; play = s.player } };
+    ghost view = { λ s. record { program = s.assembled.now.program; play = s.player } };
 
-    ghost invariant = { λ s. IsPlayed s.program.now s.player };
+    ghost invariant = { λ s. IsPlayed s.assembled.now.program s.player };
 }
 
 impl<'a> Session<'a> {
     /// Creates a session of this source's program that continues with this player, at a terminal of this size.
     pub fn new(
-        source: &'a [u8],
-        program: &'a Program,
+        assembled: &'a AssembledText<'a>,
         player: Player,
         pace: Pace,
         colours: Colours,
-        room: Room,
+        room: TerminalSize,
     ) -> Session<'a>
-        requires { IsPlayed program.now player }
-        ensures { result ≡ record { program = program.now; play = player } }
+        requires { IsPlayed assembled.now.program player }
+        ensures { result ≡ record { program = assembled.now.program; play = player } }
     {
         Session {
-            source,
-            program,
+            assembled,
             player,
             state: State::Going,
             pace,
@@ -198,14 +193,15 @@ impl<'a> Session<'a> {
 
     // Begins again, with no key typed.
     fn restart(&mut self) {
-        self.player.restart(self.program);
+        self.player.restart(self.assembled.program());
         self.goal = 0;
         self.state = State::Going;
     }
 
     // Goes back a second. If the machine was running, it continues from there; otherwise it is paused.
     fn go_back(&mut self) {
-        self.player.go_back(self.program, second(self.pace));
+        self.player
+            .go_back(self.assembled.program(), second(self.pace));
         self.goal = self.player.machine().cycles();
         self.state = match self.state {
             State::Going | State::Waiting => State::Going,
@@ -223,7 +219,7 @@ impl<'a> Session<'a> {
     }
 
     // Carries out a command.
-    fn obey(&mut self, order: Order) {
+    fn carry_out(&mut self, order: Order) {
         self.notice = None;
         match (order, self.state) {
             (Order::Quit, _) => self.leave = Some(Leave::Over),
@@ -264,13 +260,13 @@ impl<'a> Session<'a> {
     }
 
     // Handles typed bytes.
-    fn hear(&mut self, bytes: &[u8]) -> Result<(), RunFault> {
+    fn handle_input(&mut self, bytes: &[u8]) -> Result<(), RunFault> {
         let mut ahead = bytes;
         while let Some((stroke, rest)) = first_stroke(ahead, self.is_ordered) {
             self.is_ordered = stroke == Stroke::Prefix;
             match stroke {
                 Stroke::Key(key) => self.press(key)?,
-                Stroke::Order(order) => self.obey(order),
+                Stroke::Order(order) => self.carry_out(order),
                 Stroke::Prefix | Stroke::Nothing => {}
             }
             ahead = rest;
@@ -297,8 +293,8 @@ impl<'a> Session<'a> {
     }
 
     // Measures the speed, once a second.
-    fn reckon_speed(&mut self, now: u64) {
-        if now.saturating_sub(self.mark.micros) < TOLD_OVER {
+    fn measure_speed(&mut self, now: u64) {
+        if now.saturating_sub(self.mark.micros) < SPEED_PERIOD {
             return;
         }
         let cycles = self.player.machine().cycles();
@@ -317,8 +313,8 @@ impl<'a> Session<'a> {
     }
 
     // Returns what the panel is to show.
-    fn face(&self) -> Face {
-        Face {
+    fn face(&self) -> PanelContents {
+        PanelContents {
             state: self.state,
             pace: self.pace,
             speed: self.speed,
@@ -332,10 +328,9 @@ impl<'a> Session<'a> {
 fn stop_text(alloc: Global, session: &Session<'_>, pc: u16) -> Result<Vec<u8>, RunFault> {
     let mut text = Vec::new(alloc);
     if let Some(cause) = session.cause() {
-        match tell_stop(
+        match report_stop(
             alloc,
-            session.source,
-            session.program,
+            session.assembled,
             pc,
             cause,
             &mut ToWrite::new(&mut text),
@@ -391,7 +386,7 @@ fn draw<W: Output>(
     let shot = Shot::new(&session.player.machine().view(), is_lit);
     let mut frame = Vec::new(alloc);
     let mut writer = ToWrite::new(&mut frame);
-    session.reckon_speed(now);
+    session.measure_speed(now);
     put_changes(&session.shot, &shot, session.colours, &mut writer)?;
     put_face(alloc, session, &mut writer)?;
     put_steps(alloc, session, &mut writer)?;
@@ -418,7 +413,7 @@ fn take_turn<R: Input, W: Output, C: Clock>(
         Ok(count) => count,
         Err(_) => return Err(RunFault::Read),
     };
-    session.hear(&typed[..count])?;
+    session.handle_input(&typed[..count])?;
     let mut now = clock.micros();
     session.go_on(now);
     for _ in 0..MOST_STRETCHES {

@@ -35,9 +35,9 @@ pub fn put_keys<W: Output>(log: &[Typed], writer: &mut W) -> Result<(), WriteFau
     if left_out > 0 {
         put_all(
             &[
-                b"left out: ",
+                b"keys left out because --keys cannot spell them: ",
                 decimal(left_out).as_slice(),
-                b" keys that --keys has no spelling for\n",
+                b"\n",
             ],
             writer,
         )?;

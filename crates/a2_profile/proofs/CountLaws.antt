@@ -8,7 +8,7 @@ use Rattle.a2_profile.specs.declared.profile.Count.{Count}
 use Rattle.a2_profile.proofs.Joining.{IsJoining}
 use Rattle.a2_profile.specs.Counts.{none, joined, count_at, steps_in, cycles_in, NoneTakenMore, AreSummed}
 
--- no steps, at so many addresses
+-- no steps are counted at any of n addresses
 count_at-none : (n a : ℕ) → count_at (replicate n none) a ≡ none
 count_at-none zero a = refl
 count_at-none (suc n) zero = refl
@@ -34,7 +34,7 @@ times_of count = count.times
 abbrev cost_of : Count → ℕ
 cost_of count = count.cycles
 
--- the next counts fit
+-- the sums of two counts fit
 pub record Fits (count other : Count) : Type 0 where
   pub times : count.times + other.times < 2 ^ 64
   pub cycles : count.cycles + other.cycles < 2 ^ 64

@@ -5,14 +5,14 @@ use Rattle.std.proofs.lemmas.Bool.{and_parts, ltb-true}
 use Rattle.std.proofs.lemmas.Bool.Decides.{nat_tests}
 use Rattle.std.proofs.lemmas.List.{length-set}
 use Rattle.std.proofs.lemmas.List.Sums.{sum_by-set, get_or-le-sum_by}
-use Rattle.a2_burst.specs.declared.observer.Look.{Look}
+use Rattle.a2_burst.specs.declared.observer.StepView.{StepView}
 use Rattle.a2_services.specs.World.{World}
 use Rattle.a2_asm.specs.Assembled.{Assembled}
 use Rattle.a2_asm.specs.Programs.{IsSound}
 use Rattle.a2_machine.specs.declared.causes.Cause.{Cause}
 use Rattle.a2_machine.specs.ByteRun.{bytes}
 use Rattle.a2_machine.specs.Meaning.{Code, IsEnd, stuck, world_at}
-use Rattle.a2_machine.specs.Looks.{shown_at, seen_after}
+use Rattle.a2_machine.specs.Looks.{shown_at, observer_after}
 use Rattle.a2_machine.specs.State.{Device, MachineState, world_of_state, code_of, IsMachineRun}
 use Rattle.a2_run.specs.Meaning.{code_of_run, start_of_run}
 use Rattle.a2_run.specs.Started.{IsStarted, guard_of_run}
@@ -25,7 +25,7 @@ use Rattle.a2_profile.proofs.CountLaws.{no_counts-at, no_counts-summed}
 use Rattle.a2_profile.proofs.Going.{step-later, ended_by, run-ends, EndAlike, same-world}
 use Rattle.a2_profile.proofs.WalkLaws.{each-set}
 
--- A step more
+-- One more step
 
 -- what a step adds to the count of an address
 abbrev pub with_step : Bool → ℕ → Bool → Count → Count
@@ -55,7 +55,7 @@ count-next code start n a = go (is_at (world_at code start n) a) (turns_at code 
             → (let sum : Count = record { times = count.times + 0; cycles = count.cycles + 0; taken = count.taken + 0 } in sum ≡ count)
         same count e f g = λ i. record { times = e i; cycles = f i; taken = g i }
 
--- so many steps are counted
+-- n steps are counted
 pub record IsCounted (code : Code) (start : World) (n : ℕ) (counts : List Count) : Type 0 where
   pub counts_are : (a : ℕ) → a < 65536 → count_at counts a ≡ count_of code start n a
   pub summed : AreSummed counts n (world_at code start n).cycles
@@ -67,7 +67,7 @@ counted-none code start counts cycles empty = record {
   summed = subst (λ (c : ℕ). AreSummed counts 0 c) (sym cycles) (subst (λ (l : List Count). AreSummed l 0 0) (sym empty) no_counts-summed);
 }
 
-small-pc : (look : Look) → is_small look ≡ true → look.pc < 65536
+small-pc : (look : StepView) → is_small look ≡ true → look.pc < 65536
 small-pc look e = ltb-true look.pc (2 ^ 16) (and_parts (nat_lt look.pc (2 ^ 16))
     (nat_lt look.s (2 ^ 8) && (nat_lt look.next_pc (2 ^ 16) && (nat_lt look.next_s (2 ^ 8) && nat_lt look.cycles (2 ^ 32)))) e).0
 
@@ -79,7 +79,7 @@ in-words-same count times cycles taken = same (omega (arith, times)) (omega (ari
 
 module _ (code : Code) (start : World) (n : ℕ) (counts : List Count) (h : IsCounted code start n counts) (small : is_small ((shown_at code start n).look) ≡ true)
     (few : n < 2 ^ 32) (cheap : (world_at code start (suc n)).cycles < 2 ^ 64) where
-  abbrev look : Look
+  abbrev look : StepView
   look = (shown_at code start n).look
 
   abbrev pc : ℕ
@@ -157,18 +157,18 @@ module _ (code : Code) (start : World) (n : ℕ) (counts : List Count) (h : IsCo
   counted-next : IsCounted code start (suc n) (slice_set counts pc (in_words more))
   counted-next = subst (λ (c : Count). IsCounted code start (suc n) (slice_set counts pc c)) (sym more-is) counted-more
 
--- where there are counts in the end, each step was seen
+-- if there are counts at the end, each step was seen
 counted-after : (code : Code) (start : World) (first : List Count) → start.cycles ≡ 0 → first ≡ replicate 65536 none → (n : ℕ) → n < 2 ^ 32
-    → (world_at code start n).cycles < 2 ^ 64 → length (seen_after shown_to (shown_at code start) first n) ≡ 65536
-    → IsCounted code start n (seen_after shown_to (shown_at code start) first n)
-unfolding seen_after
+    → (world_at code start n).cycles < 2 ^ 64 → length (observer_after shown_to (shown_at code start) first n) ≡ 65536
+    → IsCounted code start n (observer_after shown_to (shown_at code start) first n)
+unfolding observer_after
 counted-after code start first cycles empty zero few cheap size = counted-none code start first cycles empty
 counted-after code start first cycles empty (suc n) few cheap size =
     go (is_small ((shown_at code start n).look)) refl size
     (counted-after code start first cycles empty n (omega (arith, few)) (omega (arith, cheap, step-later code start n)))
   where
     before : List Count
-    before = seen_after shown_to (shown_at code start) first n
+    before = observer_after shown_to (shown_at code start) first n
 
     next_count : Count
     next_count = in_words (counted (shown_at code start n).look.cycles (turns ((shown_at code start n).look)) (count_at before (shown_at code start n).look.pc))
@@ -188,7 +188,7 @@ pub record IsProfiled (old new : Device) (limit : ℕ) (counts : List Count) (ca
 
 pub profiled : (old new : Device) (limit : ℕ) (cause : Cause) (first counts : List Count) → old.state.steps ≡ 0 → old.state.cycles ≡ 0
     → first ≡ replicate 65536 none → limit < 2 ^ 32 → new.state.cycles < 2 ^ 64 → length counts ≡ 65536 → IsMachineRun limit old new cause
-    → counts ≡ seen_after shown_to (shown_at (code_of old.state) (world_of_state old.state)) first (new.state.steps - old.state.steps)
+    → counts ≡ observer_after shown_to (shown_at (code_of old.state) (world_of_state old.state)) first (new.state.steps - old.state.steps)
     → IsProfiled old new limit counts cause
 profiled old new limit cause first counts steps cycles empty few cheap size run seen = record {
   counts_are = record {

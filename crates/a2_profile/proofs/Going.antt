@@ -14,7 +14,7 @@ use Rattle.a2_machine.specs.State as machine
 use Rattle.a2_machine.proofs.RunFrom.{run_from}
 use Rattle.a2_machine.proofs.Runs.{run-is_end}
 
--- No step takes cycles back
+-- No step reduces the cycles
 
 found-later : (w : World) (found : Result Decoded Cause)
     → w.cycles ≤ (elim found as (λ _. World) [ Err cause ↦ w | Ok decoded ↦ performed memory_access decoded.row decoded.value w ]).cycles
@@ -41,11 +41,11 @@ step-later code start n = next-later code (world_at code start n)
 
 -- The end of the run
 
--- where a machine came to
+-- where a machine ended
 abbrev pub ended_by : Device → Device → Cause → End
 ended_by old new cause = record { world = world_of_state new.state; steps = new.state.steps - old.state.steps; cause = cause }
 
--- from a start the machine's own limit is never the end
+-- from a start, the machine's own limit never ends the run
 pub run-ends : (old new : Device) (limit : ℕ) (cause : Cause) → old.state.steps ≡ 0 → limit < 2 ^ 32 → machine.IsMachineRun limit old new cause
     → IsEnd (code_of old.state) (world_of_state old.state) limit (ended_by old new cause)
 run-ends old new limit cause steps small run =
@@ -55,13 +55,13 @@ run-ends old new limit cause steps small run =
 none-some : {X : Type 0} (x : X) → None ≡ Some x → ⊥
 none-some x e = true≢false (sym (ap is_some e))
 
--- The same run by other code
+-- The same run with other code
 
--- each end of the one code's runs from a start is an end of the other's
+-- each end of a run of one code from a start is an end of a run of the other
 abbrev pub EndAlike : Code → Code → World → Type 0
 EndAlike code other start = (limit : ℕ) (end : End) → IsEnd code start limit end → IsEnd other start limit end
 
--- a run that has made so many steps makes so many at least
+-- a run that has executed n steps executes at least n
 pub end-late : (code : Code) (start : World) (limit n : ℕ) (end : End) → IsEnd code start limit end → ((k : ℕ) → k < n → stuck code (world_at code start k) ≡ None) → n ≤ limit → n ≤ end.steps
 end-late code start limit n end is going within = go (split end.steps n)
   where
@@ -76,7 +76,7 @@ end-late code start limit n end is going within = go (split end.steps n)
     go (inl le) = le
     go (inr lt) = short lt is.cause
 
--- so both go through the same worlds: a run that is limited to so many steps ends at the last of them
+-- so both go through the same worlds: a run that is limited to n steps ends at the last of them
 pub same-world : (code other : Code) (start : World) (n : ℕ) → EndAlike code other start → ((k : ℕ) → k < n → stuck code (world_at code start k) ≡ None)
     → world_at code start n ≡ world_at other start n
 same-world code other start n alike going =

@@ -20,30 +20,30 @@ use Rattle.a2_profile.specs.Callgrind.{shown_byte, line_cost, line_costs}
 abbrev pub comma : List ℕ
 comma = codes ",\n"
 
--- the first item behind a front, and each further one behind a comma
-abbrev pub behind : List ℕ → List (List ℕ) → List ℕ
-behind front [] = []
-behind front (text ∷ texts) = (front ++ text) ++ behind comma texts
+-- the first item after a front, and each further item after a comma
+abbrev pub following : List ℕ → List (List ℕ) → List ℕ
+following front [] = []
+following front (text ∷ texts) = (front ++ text) ++ following comma texts
 
-pub items-behind : (texts : List (List ℕ)) → behind [] texts ≡ items texts
+pub items-following : (texts : List (List ℕ)) → following [] texts ≡ items texts
 unfolding items
-items-behind [] = refl
-items-behind (text ∷ texts) = ap (λ (l : List ℕ). text ++ l) (go texts)
+items-following [] = refl
+items-following (text ∷ texts) = ap (λ (l : List ℕ). text ++ l) (go texts)
   where
-    go : (ts : List (List ℕ)) → behind comma ts ≡ flat_map (λ y. comma ++ y) ts
+    go : (ts : List (List ℕ)) → following comma ts ≡ flat_map (λ y. comma ++ y) ts
     go [] = refl
     go (t ∷ ts) = ap (λ (l : List ℕ). (comma ++ t) ++ l) (go ts)
 
-pub behind-next : (front text : List ℕ) (texts rest : List (List ℕ)) → texts ≡ text ∷ rest → behind front texts ≡ (front ++ text) ++ behind comma rest
-behind-next front text texts rest is = ap (behind front) is
+pub following-next : (front text : List ℕ) (texts rest : List (List ℕ)) → texts ≡ text ∷ rest → following front texts ≡ (front ++ text) ++ following comma rest
+following-next front text texts rest is = ap (following front) is
 
--- behind the head of an array all items are left
+-- after the head of an array, all items are left
 pub left_items : (a b : Taker) (head front : List ℕ) (texts : List (List ℕ)) → front ≡ [] → Sends a b head
-    → IsLeft a b (head ++ items texts) (behind front texts)
+    → IsLeft a b (head ++ items texts) (following front texts)
 left_items a b head front texts none sends = record {
   sent = head;
   sends = sends;
-  parts = ap (λ (l : List ℕ). head ++ l) (ap (λ (l : List ℕ). behind l texts) none ∙ items-behind texts);
+  parts = ap (λ (l : List ℕ). head ++ l) (ap (λ (l : List ℕ). following l texts) none ∙ items-following texts);
 }
 
 -- what is left is the same
@@ -135,7 +135,7 @@ pub name-next : (name : List ℕ) (i d shown : ℕ) → shown ≡ shown_byte (ge
 name-next name i d shown is low =
     ap name_rest (drop_more name i d low) ∙ ap (λ (byte : ℕ). byte ∷ name_rest (drop (i + 1) name)) (sym is)
 
--- the last part went out, or broke off, as the result says
+-- the last part was written, or its write failed, as the result says
 pub left_last : {T E : Type 0} → (a b c : Taker) (r : Result T E) (whole rest part : List ℕ) → rest ≡ part → IsLeft a b whole rest
     → SendsOrBreaks b c r part → SendsOrBreaks a c r whole
 left_last a b c r whole rest part is h p =

@@ -9,7 +9,7 @@ use Rattle.a2_profile.proofs.Joining.{IsJoining}
 use Rattle.a2_profile.specs.Totals.{nothing, totals_at, own_steps_in, own_cycles_in, AreSummed}
 use Rattle.a2_profile.specs.Room.{Fit, joined_totals}
 
--- no step, in so many routines
+-- no steps are counted in any of n routines
 totals_at-none : (n r : ℕ) → totals_at (replicate n nothing) r ≡ nothing
 totals_at-none zero r = refl
 totals_at-none (suc n) zero = refl
@@ -29,11 +29,11 @@ no_totals-at r = totals_at-none 65537 r
 pub no_totals-summed : AreSummed (replicate 65537 nothing) 0 0
 no_totals-summed = none-summed 65537 refl
 
--- no routine has more cycles than all
+-- no routine has more cycles than all routines together
 abbrev pub AreWithin : List Totals → Type 0
 AreWithin totals = (r : ℕ) → r < 65537 → (totals_at totals r).all_cycles ≤ own_cycles_in totals
 
--- the next totals fit
+-- the sums of two totals fit
 pub record AllFit (t other : Totals) : Type 0 where
   pub times : t.times + other.times < 2 ^ 64
   pub steps : t.steps + other.steps < 2 ^ 64
@@ -56,7 +56,7 @@ joining-fits old others items i size others_size low h fit steps cycles within o
       all_cycles = omega (arith, cycles, within i low, others_within i low);
     })
 
--- both joined are summed
+-- joined totals have the sums of both
 pub joined-summed : (old others items : List Totals) (s c t d : ℕ) → length items ≡ 65537 → AreSummed old s c → AreSummed others t d
     → ((r : ℕ) → totals_at items r ≡ joined_totals (totals_at old r) (totals_at others r))
     → own_steps_in items ≡ own_steps_in old + own_steps_in others → own_cycles_in items ≡ own_cycles_in old + own_cycles_in others

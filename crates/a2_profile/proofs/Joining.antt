@@ -5,7 +5,7 @@ use Rattle.std.proofs.Common.{sym, ap, ◌∙◌, arith, inl, inr, get_or, get_o
 use Rattle.std.proofs.lemmas.List.{get_or_past, take_all, length-set}
 use Rattle.std.proofs.lemmas.List.Sums.{sum_by-set, sum_by_more}
 
--- each item below an index is joined with the other there
+-- each item below an index is joined with the other list's item there
 pub record IsJoining {X : Type 0} (join : X → X → X) (d : X) (old others : List X) (i : ℕ) (items : List X) : Type 0 where
   pub size : length items ≡ length old
   pub below : (a : ℕ) → a < i → get_or items a d ≡ join (get_or old a d) (get_or others a d)
@@ -20,7 +20,7 @@ joining-none join d old others = record {
   sums = λ f is. omega arith;
 }
 
--- one more
+-- one more item
 pub joining-more : {X : Type 0} (join : X → X → X) (d : X) (old others items : List X) (i : ℕ) → i < length old → i < length others
     → IsJoining join d old others i items
     → IsJoining join d old others (i + 1) (slice_set items i (join (get_or items i d) (get_or others i d)))
@@ -47,7 +47,7 @@ joining-more {X} join d old others items i low within h =
         let ne : a ≢ i = omega (arith, lt) in
         get_or-set_other items i a (join (get_or items i d) (get_or others i d)) d ne ∙ h.below a lt
 
--- all are joined
+-- all items are joined
 pub record AreJoined {X : Type 0} (join : X → X → X) (d : X) (old others items : List X) : Type 0 where
   pub joined_are : (a : ℕ) → get_or items a d ≡ join (get_or old a d) (get_or others a d)
   pub sums : (f : X → ℕ) → ((x y : X) → f (join x y) ≡ f x + f y) → sum_by f items ≡ sum_by f old + sum_by f others

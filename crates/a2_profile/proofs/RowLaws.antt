@@ -40,12 +40,12 @@ pub never-next : (counts : List Count) (texts : List (List ℕ)) (statements : L
     → never_rows counts texts (drop i statements) ≡ never_row counts texts (get_or statements i d) ++ never_rows counts texts (drop (i + 1) statements)
 never-next counts texts statements i d low = ap (λ (l : List Statement). never_rows counts texts l) (drop_more statements i d low)
 
--- the entry at an index of a map, seen through another form of it
+-- the entry at an index of a map, found through another form of its elements
 pub entry-at : {X Y Z : Type 0} (see : X → Y) (f : Y → Z) (found : Option X) (x : X) (ys : List Y) (i : ℕ) → option_map see found ≡ slice_get ys i → found ≡ Some x
     → slice_get (map f ys) i ≡ Some (f (see x))
 entry-at see f found x ys i lookup is = slice_get-map f ys i ∙ ap (option_map f) (sym lookup ∙ ap (option_map see) is)
 
--- the first name from one on
+-- the first name for an address, from an index on
 pub name-next : (names : Names) (address i : ℕ) (entry : List ℕ × ℕ) → slice_get names i ≡ Some entry
     → name_of (drop i names) address ≡ (if entry.1 == address then entry.0 else name_of (drop (i + 1) names) address)
 name-next names address i entry is =

@@ -54,7 +54,7 @@ no-routine-profiles program limit free totals is = record {
   cycles_are = ap own_cycles_in is ∙ no_totals-summed.cycles_are;
 }
 
--- equal numbers make equal counts, and equal totals
+-- equal numbers give equal counts and equal totals
 abbrev count : ℕ → ℕ → ℕ → Count
 count times cycles taken = record { times = times; cycles = cycles; taken = taken }
 
@@ -70,7 +70,7 @@ same-totals a b c d e v w x y z p q r s t =
     ap (λ (n : ℕ). totals_of n b c d e) p ∙ ap (λ (n : ℕ). totals_of v n c d e) q ∙ ap (λ (n : ℕ). totals_of v w n d e) r
     ∙ ap (λ (n : ℕ). totals_of v w x n e) s ∙ ap (λ (n : ℕ). totals_of v w x y n) t
 
--- a run more
+-- one more run
 count-more : (runs : List (Ran (List Count))) (one : Ran (List Count)) (a : ℕ)
     → count_of_all (runs ++ one ∷ []) a ≡ joined (count_of_all runs a) (count_at one.counted a)
 count-more runs one a =
@@ -115,7 +115,7 @@ one-routine-profile-more program limit free keys causes totals run new k cause h
       cycles_are = cycles ∙ ap (λ (n : ℕ). n + own_cycles_in run) h.cycles_are ∙ sym (sum_by_push (λ (r : Ran (List Totals)). own_cycles_in r.counted) h.runs one);
     }
 
--- what holds of a join that was made
+-- what holds if a join succeeded
 pub when_ok : {T E : Type 0} (r : Result T E) → is_ok r ≡ true → (P : Type 0) → OnOk r P → P
 when_ok (Ok x) is P h = h
 when_ok (Err e) is P h = absurd (false≢true is)

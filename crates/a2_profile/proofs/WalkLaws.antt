@@ -1,4 +1,4 @@
--- What each part of a step leaves of a walk.
+-- What each part of a step does to a walk.
 use Rattle.std.specs.Prelude.{◌≡◌, ◌≢◌, ◌⊎◌, ℕ, zero, suc, ◌+◌, ◌-◌, ◌<◌, ◌≤◌, ◌^◌, ◌==◌, ◌&&◌, nat_le, not, Bool, true, false, List, [], ◌∷◌, ◌++◌, length, take, filter, nat_lt, replicate, slice_set, slice_get, slice_index_or, if◌then◌else◌, Some, refl}
 use Rattle.std.specs.List.{All, AllPairs}
 use Rattle.std.proofs.Common.{sym, ap, ap₂, ◌∙◌, subst, arith, inl, inr, get_or-set_same, get_or-set_other, mul-zero, lit<, lit≤}
@@ -11,7 +11,7 @@ use Rattle.std.proofs.lemmas.List.Elements.{All-push, filter-append}
 use Rattle.std.proofs.lemmas.List.Folds.{sum_by-replicate}
 use Rattle.std.proofs.lemmas.List.Quantifiers.{all_pairs_push}
 use Rattle.std.proofs.lemmas.List.Sums.{sum_by-set, sum_by_push, sum_by_more}
-use Rattle.a2_burst.specs.declared.observer.Look.{Look}
+use Rattle.a2_burst.specs.declared.observer.StepView.{StepView}
 use Rattle.a2_profile.specs.declared.walk.Frame.{Frame}
 use Rattle.a2_profile.specs.declared.walk.Opening.{Opening}
 use Rattle.a2_profile.specs.declared.walk.Totals.{Totals}
@@ -19,7 +19,7 @@ use Rattle.a2_profile.specs.Seeing.{is_small}
 use Rattle.a2_profile.specs.Totals.{itself, nothing, totals_at}
 use Rattle.a2_profile.specs.Walks.{Walk, base, closed, opening_at, frame_at, inner, depth_of, with_open, seen, seen_at, IsWithin, IsWalk, IsLow, most_steps, counted, noted, opened, left, leaves, left_many, left_below, has_room, with_made, with_look, lost, SeesAlike}
 
--- a step more, the own one of a routine, or among those of what it calls
+-- one more step, of a routine itself or of a routine that it calls
 abbrev pub with_step : Bool → Bool → ℕ → Totals → Totals
 with_step own among cost t = record {
   times = t.times;
@@ -29,7 +29,7 @@ with_step own among cost t = record {
   all_cycles = t.all_cycles + (if among then cost else 0);
 }
 
--- entered once more
+-- one more entry
 abbrev pub with_entry : Bool → Totals → Totals
 with_entry entered t = record {
   times = t.times + (if entered then 1 else 0);
@@ -47,7 +47,7 @@ same-number a = grind (arith, nat_tests)
 pub other-number : (a b : ℕ) → a ≢ b → (a == b) ≡ false
 other-number a b ne = grind (arith, nat_tests, ne)
 
--- what holds of what is written, at its place, and of each other element, holds of all behind a write
+-- if it holds of the written element and of each other element, it holds of all after the write
 pub each-set : {X : Type 0} (P : ℕ → X → Type 0) (xs : List X) (i : ℕ) (v d : X) → i < length xs → P i v
     → ((r : ℕ) → r ≢ i → P r (slice_index_or xs r d)) → (r : ℕ) → P r (slice_index_or (slice_set xs i v) r d)
 each-set {X} P xs i v d low here others r = go (split r i)
@@ -63,7 +63,7 @@ pub totals-alike : (a b : Totals) → a.times ≡ b.times → a.steps ≡ b.step
     → a.all_cycles ≡ b.all_cycles → a ≡ b
 totals-alike a b e f g h k = λ i. record { times = e i; steps = f i; cycles = g i; all_steps = h i; all_cycles = k i }
 
--- one that is entered
+-- a routine that is entered
 open-entered : (now depth done since : ℕ)
     → with_open now (depth + 1) done (if depth == 0 then now else since) ≡ with_open now depth done since
 open-entered now depth done since =
@@ -74,7 +74,7 @@ open-entered now depth done since =
     go true = omega arith
     go false = refl
 
--- one that is left
+-- a routine that is left
 open-left : (now depth done since : ℕ) → 0 < depth
     → with_open now (depth - 1) (done + (if depth == 1 then now - since else 0)) since ≡ with_open now depth done since
 open-left now depth done since some = go (split depth)
@@ -93,7 +93,7 @@ open-left now depth done since some = go (split depth)
         open-more : (a b : ℕ) → (a + 0) + b ≡ a + b
         open-more a b = omega arith
 
--- one that is open goes on with each step
+-- an open routine grows with each step
 open-grown : (now more depth done since : ℕ) → since ≤ now
     → with_open (now + more) depth done since ≡ with_open now depth done since + (if not (depth == 0) then more else 0)
 open-grown now more depth done since le = go (depth == 0)
@@ -111,7 +111,7 @@ open-within now more depth done since le within = go (depth == 0) within
 
 -- Frames
 
--- the last one
+-- the last frame
 pub popped-inner : (frames : List Frame) (frame : Frame) → slice_get frames (length frames - 1) ≡ Some frame → frame.routine ≡ inner frames
 popped-inner frames frame is = sym (ap (λ (f : Frame). f.routine) (get_or_from_slice_get frames (length frames - 1) frame base is))
 
@@ -170,7 +170,7 @@ empty-walk frames totals openings e f g =
     (subst (λ (l : List Opening). IsWalk (record { frames = []; totals = replicate 65537 nothing; openings = l; steps = 0; cycles = 0 })) (sym g)
     (none-walk 65537 refl)))
 
--- Seeing alike
+-- Walks that show the same
 
 seen-alike : (steps cycles : ℕ) (o p : Opening) (t u : Totals) → u.times ≡ t.times → u.steps ≡ t.steps → u.cycles ≡ t.cycles
     → with_open steps p.depth u.all_steps p.steps ≡ with_open steps o.depth t.all_steps o.steps
@@ -264,7 +264,7 @@ module _ (walk : Walk) (h : IsWalk walk) (routine s : ℕ) (few : routine < 6553
       (open-entered walk.steps old_opening.depth t.all_steps old_opening.steps) (open-entered walk.cycles old_opening.depth t.all_cycles old_opening.cycles))
       (λ k ne few'. refl) r lt
 
--- The innermost that is left
+-- Leaving the innermost routine
 
 module _ (walk : Walk) (h : IsWalk walk) (some : 0 < length walk.frames) where
   abbrev at : ℕ
@@ -314,7 +314,7 @@ module _ (walk : Walk) (h : IsWalk walk) (some : 0 < length walk.frames) where
   openings-low : at < length walk.openings
   openings-low = omega (arith, h.openings_size, inner-few)
 
-  -- what holds of both at the routine that is left, and at each other, holds of all
+  -- if it holds of the routine that is left and of each other routine, it holds of all
   each-left : (P : ℕ → Opening → Totals → Type 0) → P at left_opening left_totals
       → ((r : ℕ) → r ≢ at → P r (opening_at walk.openings r) (totals_at walk.totals r))
       → (r : ℕ) → P r (opening_at (left walk).openings r) (totals_at (left walk).totals r)
@@ -378,7 +378,7 @@ module _ (walk : Walk) (h : IsWalk walk) (some : 0 < length walk.frames) where
     cycles = refl;
   }
 
-  -- A step that is counted in it
+  -- A step that is counted in the routine
 
   abbrev made_totals : ℕ → Totals
   made_totals cost = record {
@@ -517,7 +517,7 @@ module _ (walk : Walk) (h : IsWalk walk) (routine : ℕ) (few : routine < 65537)
       none-more : (t : Totals) → t ≡ with_entry false t
       none-more t = totals-alike t (with_entry false t) (omega arith) refl refl refl refl
 
--- The same by what a body makes of it
+-- The same, from the values that a body computes
 
 pub opened-is : (walk : Walk) (routine s : ℕ) → IsWalk walk → routine < 65537 → s ≤ 256 → IsLow s walk.frames
     → (frames : List Frame) (o : Opening) (steps cycles : ℕ) → frames ≡ walk.frames ++ record { routine = routine; s = s } ∷ []
@@ -612,7 +612,7 @@ leaves-true walk s e =
 pub kept-low : (s : ℕ) (frames : List Frame) → IsLow s frames → kept s frames ≡ frames
 kept-low s frames low = filter-all (λ f. nat_lt s f.s) frames (λ k d lt. lt-ltb s (slice_index_or frames k d).s (low k d lt))
 
--- below the innermost is below all
+-- a stack pointer below the innermost frame is below all frames
 pub low-above : (walk : Walk) (s : ℕ) → IsWalk walk → (0 < length walk.frames → s < (frame_at walk.frames (length walk.frames - 1)).s) → IsLow s walk.frames
 low-above walk s h high = λ k d low. go k d low (split k (length walk.frames - 1))
   where
@@ -626,7 +626,7 @@ low-above walk s h high = λ k d low. go k d low (split k (length walk.frames - 
         let at_last : k ≡ length walk.frames - 1 = omega (arith, low, le) in
         subst (λ (f : Frame). s < f.s) (sym (get_or_default walk.frames k d base low ∙ ap (frame_at walk.frames) at_last)) (high (omega (arith, low)))
 
--- so none is left
+-- so no routine is left
 pub stays-low : (walk : Walk) (s : ℕ) → IsLow s walk.frames → leaves s walk ≡ false
 stays-low walk s low = go (split (length walk.frames))
   where
@@ -644,14 +644,14 @@ stays-low walk s low = go (split (length walk.frames))
     go (inr some) =
         above (length walk.frames) (frame_at walk.frames (length walk.frames - 1)).s (low (length walk.frames - 1) base (omega (arith, some)))
 
--- where the innermost is not left, none is
+-- if the innermost routine is not left, no routine is
 pub low-all : (walk : Walk) (s : ℕ) → IsWalk walk → leaves s walk ≡ false → IsLow s walk.frames
 low-all walk s h e = low-above walk s h (λ some. above (length walk.frames) (frame_at walk.frames (length walk.frames - 1)).s some e)
   where
     above : (n t : ℕ) → 0 < n → (not (n == 0) && nat_le t s) ≡ false → s < t
     above n t some e = grind (arith, nat_tests, some, e)
 
--- there are at most as many as stack pointers above
+-- there are at most as many frames as stack pointers above
 falls-by : (frames : List Frame) → AllPairs (λ (f g : Frame). g.s < f.s) frames → (k : ℕ) → k < length frames → (frame_at frames k).s + k ≤ (frame_at frames 0).s
 falls-by frames falls zero low = omega arith
 falls-by frames falls (suc k) low = omega (arith, falls-by frames falls k (omega (arith, low)), falls k (suc k) base (omega arith) low)
@@ -668,7 +668,7 @@ frames-few walk s h low = go (split (length walk.frames))
         let last : length walk.frames - 1 < length walk.frames = omega (arith, some) in
         omega (arith, some, falls-by walk.frames h.falls (length walk.frames - 1) last, h.high 0 base some, low (length walk.frames - 1) base last)
 
--- All that a stack pointer is not below
+-- All routines that a stack pointer leaves
 
 many-walk : (s n : ℕ) (walk : Walk) → IsWalk walk → IsWalk (left_many s n walk)
 many-walk s zero walk h = h
@@ -728,31 +728,31 @@ below-last s walk e = go (length walk.frames)
     go zero = refl
     go (suc n) = ap (λ (b : Bool). if b then left_many s n (left walk) else walk) e
 
--- A look that is seen
+-- A view of a step that is counted
 
-pub small-is : (look : Look) → look.pc < 2 ^ 16 → look.s < 2 ^ 8 → look.next_pc < 2 ^ 16 → look.next_s < 2 ^ 8 → look.cycles < 2 ^ 32 → is_small look ≡ true
+pub small-is : (look : StepView) → look.pc < 2 ^ 16 → look.s < 2 ^ 8 → look.next_pc < 2 ^ 16 → look.next_s < 2 ^ 8 → look.cycles < 2 ^ 32 → is_small look ≡ true
 small-is look pc s next_pc next_s cycles =
     ap₂ (λ (a b : Bool). a && b) (lt-ltb look.pc (2 ^ 16) pc)
     (ap₂ (λ (a b : Bool). a && b) (lt-ltb look.s (2 ^ 8) s)
     (ap₂ (λ (a b : Bool). a && b) (lt-ltb look.next_pc (2 ^ 16) next_pc)
     (ap₂ (λ (a b : Bool). a && b) (lt-ltb look.next_s (2 ^ 8) next_s) (lt-ltb look.cycles (2 ^ 32) cycles))))
 
--- where there is room, and where there is none
-seen-where : (walk : Walk) (look : Look) (b : Bool) → is_small look ≡ true → IsWalk walk → has_room walk ≡ b
+-- if there is room, and if there is none
+seen-where : (walk : Walk) (look : StepView) (b : Bool) → is_small look ≡ true → IsWalk walk → has_room walk ≡ b
     → (if b then with_made look walk else walk) ≡ with_look walk look
 seen-where walk look b small h room =
     ap (λ (c : Bool). if c then with_made look walk else walk) (sym room)
     ∙ ap₂ (λ (c d : Bool). if c && d then (if has_room walk then with_made look walk else walk) else lost) (sym small)
     (sym (ap (λ (n : ℕ). n == 65537) h.totals_size))
 
-pub seen-made : (walk : Walk) (look : Look) (made : Walk) → is_small look ≡ true → IsWalk walk → has_room walk ≡ true → made ≡ with_made look walk
+pub seen-made : (walk : Walk) (look : StepView) (made : Walk) → is_small look ≡ true → IsWalk walk → has_room walk ≡ true → made ≡ with_made look walk
     → made ≡ with_look walk look
 seen-made walk look made small h room e = e ∙ seen-where walk look true small h room
 
-pub seen-full : (walk : Walk) (look : Look) → is_small look ≡ true → IsWalk walk → has_room walk ≡ false → walk ≡ with_look walk look
+pub seen-full : (walk : Walk) (look : StepView) → is_small look ≡ true → IsWalk walk → has_room walk ≡ false → walk ≡ with_look walk look
 seen-full walk look small h room = seen-where walk look false small h room
 
--- in the program itself nothing is seen at first
+-- at first, nothing is counted in the program itself
 pub begun-seen : (new : Walk) → new ≡ opened itself 256 no_walk → (r : ℕ) → r < 65537 → seen_at new r ≡ nothing
 begun-seen new is r lt =
     ap (λ (w : Walk). seen_at w r) is

@@ -1,4 +1,4 @@
--- The steps of a run that is walked along, one after another.
+-- The steps of a run that is walked, one after another.
 use Rattle.std.specs.Prelude.{◌≡◌, ℕ, zero, suc, ◌+◌, ◌-◌, ◌^◌, ◌<◌, ◌≤◌, ◌==◌, ◌&&◌, ◌||◌, not, nat_lt, Bool, true, false, List, [], ◌∷◌, ◌++◌, map, filter, length, slice_index_or, if◌then◌else◌, Option, Some, None, refl}
 use Rattle.std.specs.List.{All, list_any}
 use Rattle.std.specs.Option.{unwrap_or}
@@ -9,14 +9,14 @@ use Rattle.std.proofs.lemmas.List.{length-map, get_or-map}
 use Rattle.std.proofs.lemmas.List.Elements.{All-filter, All-push, filter_passes}
 use Rattle.std.proofs.lemmas.List.Sums.{sum_by-cons}
 use Rattle.a2_bus.specs.Memory.{peek}
-use Rattle.a2_burst.specs.declared.observer.Look.{Look}
+use Rattle.a2_burst.specs.declared.observer.StepView.{StepView}
 use Rattle.a2_services.specs.World.{World}
 use Rattle.a2_asm.specs.Assembled.{Assembled}
 use Rattle.a2_asm.specs.Programs.{IsSound}
 use Rattle.a2_machine.specs.declared.causes.Cause.{Cause}
 use Rattle.a2_machine.specs.ByteRun.{bytes}
 use Rattle.a2_machine.specs.Meaning.{Code, IsEnd, world_at}
-use Rattle.a2_machine.specs.Looks.{shown_at, seen_after}
+use Rattle.a2_machine.specs.Looks.{shown_at, observer_after}
 use Rattle.a2_machine.specs.State.{Device, MachineState, world_of_state, code_of, IsMachineRun}
 use Rattle.a2_run.specs.Meaning.{code_of_run, start_of_run}
 use Rattle.a2_run.specs.Started.{IsStarted, guard_of_run}
@@ -43,7 +43,7 @@ frame_of worlds entry = record { routine = begin_of worlds entry; s = entry.s }
 abbrev pub frames_of : (ℕ → World) → ℕ → List Frame
 frames_of worlds n = base ∷ map (frame_of worlds) (entered worlds n)
 
--- those within are above the stack pointer
+-- the entries within are above the stack pointer
 pub entered-within : (worlds : ℕ → World) (n : ℕ) → All (λ (e : Entry). is_within (worlds n) e ≡ true) (entered worlds n)
 unfolding entered
 entered-within worlds zero = λ k d low. absurd (omega (arith, low))
@@ -79,7 +79,7 @@ pub map-push : {X Y : Type 0} (g : X → Y) (xs : List X) (x : X) → map g (xs 
 map-push g [] x = refl
 map-push g (y ∷ xs) x = ap (λ (l : List _). g y ∷ l) (map-push g xs x)
 
--- a step further
+-- one more step
 pub frames-next : (worlds : ℕ → World) (n : ℕ) (old mid new : List Frame) (calls : Bool) (routine s now : ℕ) → old ≡ frames_of worlds n
     → mid ≡ (if calls then old ++ record { routine = routine; s = s } ∷ [] else old) → calls ≡ is_call (worlds n)
     → routine ≡ (worlds (suc n)).registers.pc → s ≡ (worlds n).registers.s → now ≡ (worlds (suc n)).registers.s → now < 256
@@ -103,7 +103,7 @@ frames-next worlds n old mid new calls routine s now is_old is_mid is_calls is_r
     called true = ap (λ (l : List Frame). base ∷ l) (sym (map-push (frame_of worlds) (entered worlds n) (entry_at n (worlds n))))
     called false = refl
 
--- What is seen of them
+-- What is counted of them
 
 routines-of : (worlds : ℕ → World) (n : ℕ) → map (λ (f : Frame). f.routine) (frames_of worlds n) ≡ around worlds n
 routines-of worlds n = ap (λ (l : List ℕ). itself ∷ l) (go (entered worlds n))
@@ -142,7 +142,7 @@ totals-next : (worlds : ℕ → World) (n r : ℕ)
 unfolding totals_of
 totals-next worlds n r = refl
 
--- So many steps are walked along
+-- After n steps of a walk
 
 pub record IsAlong (code : Code) (start : World) (n : ℕ) (walk : Walk) : Type 0 where
   pub is_walk : IsWalk walk
@@ -151,7 +151,7 @@ pub record IsAlong (code : Code) (start : World) (n : ℕ) (walk : Walk) : Type 
   pub steps : walk.steps ≡ n
   pub cycles : walk.cycles ≡ (world_at code start n).cycles
 
--- at first
+-- before the first step
 pub record IsBegun (start : World) (walk : Walk) : Type 0 where
   pub is_walk : IsWalk walk
   pub frames : walk.frames ≡ base ∷ []
@@ -163,15 +163,15 @@ along-none : (code : Code) (start : World) (walk : Walk) → IsBegun start walk 
 unfolding entered totals_of world_at
 along-none code start walk h = record { is_walk = h.is_walk; frames = h.frames; seen = h.seen; steps = h.steps; cycles = h.cycles }
 
--- the numbers of a look
-record AreSmall (look : Look) : Type 0 where
+-- the numbers of a view of a step are small
+record AreSmall (look : StepView) : Type 0 where
   pub pc : look.pc < 2 ^ 16
   pub s : look.s < 2 ^ 8
   pub next_pc : look.next_pc < 2 ^ 16
   pub next_s : look.next_s < 2 ^ 8
   pub cycles : look.cycles < 2 ^ 32
 
-are-small : (look : Look) → is_small look ≡ true → AreSmall look
+are-small : (look : StepView) → is_small look ≡ true → AreSmall look
 are-small look e =
     let pc = nat_lt look.pc (2 ^ 16) in
     let s = nat_lt look.s (2 ^ 8) in
@@ -190,7 +190,7 @@ are-small look e =
       cycles = ltb-true look.cycles (2 ^ 32) four.1;
     }
 
--- what was seen behind the step, its entry and what it left
+-- what is counted after the step, its entry and the routines that it left
 abbrev Sees : Walk → Walk → (ℕ → Totals → Totals) → Type 0
 Sees old new change = (r : ℕ) → r < 65537 → seen_at new r ≡ change r (seen_at old r)
 
@@ -228,7 +228,7 @@ called-walk walk false routine s h few small low times = record {
     none-more : (t : Totals) → t ≡ with_entry false t
     none-more t = totals-alike t (with_entry false t) (omega arith) refl refl refl refl
 
--- the look's byte is JSR's
+-- the byte of the view is the opcode of JSR
 call-is : (o : Option ℕ) → (unwrap_or o 0 == 0x20) ≡ is_jsr o
 call-is None = refl
 call-is (Some byte) = refl
@@ -237,7 +237,7 @@ module _ (code : Code) (start : World) (n : ℕ) (walk : Walk) (h : IsAlong code
   abbrev worlds : ℕ → World
   worlds = world_at code start
 
-  abbrev look : Look
+  abbrev look : StepView
   look = (shown_at code start n).look
 
   sizes : AreSmall look
@@ -293,20 +293,20 @@ module _ (code : Code) (start : World) (n : ℕ) (walk : Walk) (h : IsAlong code
     cycles = omega (arith, left-alike-is.cycles, called.cycles, h.cycles, step-later code start n);
   }
 
--- where there are totals in the end, each step was seen
+-- if there are totals at the end, each step was seen
 along-after : (code : Code) (start : World) (first : Walk) → IsBegun start first → (n : ℕ) → n ≤ most_steps
-    → length (seen_after shown_to (shown_at code start) first n).totals ≡ 65537
-    → IsAlong code start n (seen_after shown_to (shown_at code start) first n)
-unfolding seen_after
+    → length (observer_after shown_to (shown_at code start) first n).totals ≡ 65537
+    → IsAlong code start n (observer_after shown_to (shown_at code start) first n)
+unfolding observer_after
 along-after code start first begun zero few size = along-none code start first begun
 along-after code start first begun (suc n) few size =
     go (is_small look) (length before.totals == 65537) refl refl size (along-after code start first begun n (omega (arith, few)))
   where
-    look : Look
+    look : StepView
     look = (shown_at code start n).look
 
     before : Walk
-    before = seen_after shown_to (shown_at code start) first n
+    before = observer_after shown_to (shown_at code start) first n
 
     same-size : (a b : ℕ) → (a == b) ≡ true → a ≡ b
     same-size a b e = grind (arith, nat_tests, e)
@@ -330,7 +330,7 @@ along-after code start first begun (suc n) few size =
 
 pub walked : (old new : Device) (limit : ℕ) (cause : Cause) (first walk : Walk) → old.state.steps ≡ 0 → IsBegun (world_of_state old.state) first → limit < 2 ^ 32
     → IsWalk walk → IsMachineRun limit old new cause
-    → walk ≡ seen_after shown_to (shown_at (code_of old.state) (world_of_state old.state)) first (new.state.steps - old.state.steps)
+    → walk ≡ observer_after shown_to (shown_at (code_of old.state) (world_of_state old.state)) first (new.state.steps - old.state.steps)
     → IsWalked (code_of old.state) (world_of_state old.state) limit walk cause
 walked old new limit cause first walk steps begun few is_walk run seen = record {
   end = ended_by old new cause;
@@ -398,7 +398,7 @@ totals-alike-of v w (suc n) r alike =
     ∙ ap (λ (t : Totals). with_entry (is_entry w r n) (with_step (is_own w r n) (is_in w r n) (cost w n) t)) (totals-alike-of v w n r before)
     ∙ sym (totals-next w n r)
 
--- the totals of a machine at the start of a program's run are the program's
+-- the totals of a machine at the start of a program's run are those of the program
 pub routines-of-run : (program : Assembled) (keys : List ℕ) (limit : ℕ) (free : Bool) (state : MachineState) → IsSound program → IsStarted free program keys state
     → (walk : Walk) (cause : Cause) → IsWalked (code_of state) (world_of_state state) limit walk cause → (totals : List Totals)
     → ((r : ℕ) → r < 65537 → totals_at totals r ≡ seen_at walk r) → own_steps_in totals ≡ walk.steps → own_cycles_in totals ≡ walk.cycles

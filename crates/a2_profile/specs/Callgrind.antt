@@ -1,4 +1,4 @@
--- What is written of a profile in the form of Callgrind's files (Valgrind's "Callgrind Format Specification", version 1), for its
+-- What is written of a profile in the format of Callgrind's files (Valgrind's "Callgrind Format Specification", version 1), for its
 -- readers. A line's cost is its steps and its cycles. This project's profile.
 use Rattle.std.specs.Prelude.{ℕ, ◌+◌, ◌==◌, ◌||◌, nat_lt, List, [], ◌∷◌, ◌++◌, length, map, find, codes, Option, Some, None, if◌then◌else◌}
 use Rattle.std.specs.List.{concat}
@@ -16,14 +16,14 @@ use Rattle.a2_profile.specs.Totals.{itself, totals_at, own_steps_in, own_cycles_
 use Rattle.a2_profile.specs.Table.{is_outside, rows_from}
 use Rattle.a2_profile.specs.RoutineTable.{name_of}
 
--- a byte of a file's name; a control byte, which would end a line, as ?
+-- a byte of a file's name, with ? for a control byte, which would end a line
 abbrev pub shown_byte : ℕ → ℕ
 shown_byte byte = if nat_lt byte 0x20 || (byte == 0x7F) then 0x3F else byte
 
 unfoldable pub name_line : List ℕ → List ℕ
 name_line name = map shown_byte name ++ codes "\n"
 
--- what stands first: of which kind the costs are, all of them, and the files: 2 stands for what lies in none, 1 for the source
+-- the beginning: the kind of the costs, all of them, and the files: 2 is for what is in no file, 1 for the source
 unfoldable pub heading : ℕ → ℕ → List ℕ
 heading steps cycles = concat (
     codes "# callgrind format\nversion: 1\ncreator: a2lab\ncmd: a2lab profile\npositions: line\nevents: Steps Cycles\nsummary: "
@@ -40,17 +40,17 @@ function_head file name = concat (codes "fl=(" ∷ file ∷ codes ")\nfn=" ∷ n
 abbrev pub function_record : List ℕ → List ℕ → ℕ → ℕ → ℕ → List ℕ
 function_record file name line steps cycles = function_head file name ++ cost_row line steps cycles
 
--- the name of what begins at an address: the first of the source that stands for it, or else the address, as $FDED
+-- the name of what begins at an address: its first name in the source, or else the address, as $FDED
 abbrev pub function_name : Names → ℕ → List ℕ
 function_name names address = if length (name_of names address) == 0 then 0x24 ∷ hex_word address else name_of names address
 
--- the cost of the instruction on a line, if one stands there and was done
+-- the cost of the instruction on a line, if there is one and it was executed
 abbrev pub line_cost : List Count → Option Statement → ℕ → List ℕ
 line_cost counts None n = []
 line_cost counts (Some s) n =
     if (count_at counts s.addr).times == 0 then [] else cost_row n (count_at counts s.addr).times (count_at counts s.addr).cycles
 
--- the costs of lines, from the line of a number on
+-- the costs of lines, from the line with a number on
 abbrev pub line_costs : List Count → List Statement → ℕ → List (List ℕ) → List ℕ
 line_costs counts statements n [] = []
 line_costs counts statements n (text ∷ texts) =

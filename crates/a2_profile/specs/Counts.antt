@@ -26,11 +26,11 @@ steps_in counts = sum_by (λ count. count.times) counts
 abbrev pub cycles_in : List Count → ℕ
 cycles_in counts = sum_by (λ count. count.cycles) counts
 
--- nowhere are more steps taken than made
+-- at no address are more steps taken than executed
 abbrev pub NoneTakenMore : List Count → Type 0
 NoneTakenMore counts = (address : ℕ) → (count_at counts address).taken ≤ (count_at counts address).times
 
--- there is a count for each address; all are of so many steps and cycles
+-- there is a count for each address; together they are so many steps and cycles
 pub record AreSummed (counts : List Count) (steps cycles : ℕ) : Type 0 where
   pub size : length counts ≡ 65536
   pub steps_are : steps_in counts ≡ steps

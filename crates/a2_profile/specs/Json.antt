@@ -1,4 +1,4 @@
--- What is written of a profile as an object of JSON (RFC 8259). This project's profile.
+-- What is written of a profile as a JSON object (RFC 8259). This project's profile.
 use Rattle.std.specs.Prelude.{ℕ, ◌+◌, ◌-◌, ◌==◌, nat_lt, not, Bool, true, false, List, [], ◌∷◌, ◌++◌, map, codes, Option, Some, None, if◌then◌else◌}
 use Rattle.std.specs.List.{concat, filter, flat_map, join_by, range_with_len}
 use Rattle.std.specs.Fmt.{decimal}
@@ -20,17 +20,17 @@ use Rattle.a2_profile.specs.RoutineTable.{name_of}
 unfoldable pub escapes : List ℕ → List ℕ
 escapes text = flat_map escaped text
 
--- the same between these
+-- the same between these texts
 unfoldable pub string_field : List ℕ → List ℕ → List ℕ → List ℕ
 string_field front text end = front ++ (escapes text ++ end)
 
--- what a reader of JSON finds behind a string that is open: what stands behind its first quote before which no backslash
--- stands. `behind` says whether one stands before the next byte. No string has a control byte.
-abbrev pub behind_string : Bool → List ℕ → Option (List ℕ)
-behind_string behind [] = None
-behind_string true (byte ∷ rest) = behind_string false rest
-behind_string false (byte ∷ rest) =
-    if nat_lt byte 0x20 then None else if byte == 0x22 then Some rest else behind_string (byte == 0x5C) rest
+-- what a reader of JSON finds after an open string: what follows its first quote without a backslash before it. `following` says
+-- whether a backslash is before the next byte. No string has a control byte.
+abbrev pub after_string : Bool → List ℕ → Option (List ℕ)
+after_string following [] = None
+after_string true (byte ∷ rest) = after_string false rest
+after_string false (byte ∷ rest) =
+    if nat_lt byte 0x20 then None else if byte == 0x22 then Some rest else after_string (byte == 0x5C) rest
 
 -- the items of an array, with commas between them
 unfoldable pub items : List (List ℕ) → List ℕ
@@ -46,14 +46,14 @@ count_fields front address count end = concat (
     front ∷ codes "\"address\":" ∷ decimal address ∷ codes ",\"times\":" ∷ decimal count.times ∷ codes ",\"cycles\":"
     ∷ decimal count.cycles ∷ end ∷ [])
 
--- of a branch how often it was taken, and how often not
+-- how often a branch was taken, and how often not
 unfoldable pub branch_fields : Bool → Count → List ℕ
 branch_fields is_branch count =
     if is_branch
     then concat (codes ",\"taken\":" ∷ decimal count.taken ∷ codes ",\"not_taken\":" ∷ decimal (count.times - count.taken) ∷ [])
     else []
 
--- what is counted of the instruction on a line, if one stands there
+-- what is counted of the instruction on a line, if there is one
 abbrev pub statement_fields : List Count → Option Statement → List ℕ
 statement_fields counts None = []
 statement_fields counts (Some s) =
@@ -67,20 +67,20 @@ abbrev pub line_object : List Count → Option Statement → ℕ → List ℕ �
 line_object counts own n text =
     line_head n ++ (statement_fields counts own ++ string_field (codes ",\"source\":\"") text (codes "\"}"))
 
--- the objects of lines, from the line of a number on
+-- the objects of lines, from the line with a number on
 abbrev pub line_objects : List Count → List Statement → ℕ → List (List ℕ) → List (List ℕ)
 line_objects counts statements n [] = []
 line_objects counts statements n (text ∷ texts) =
     line_object counts (instruction_on statements n) n text ∷ line_objects counts statements (n + 1) texts
 
--- those of the other addresses where steps began
+-- the objects of the other addresses where steps began
 abbrev pub outside_object : List Count → ℕ → List ℕ
 outside_object counts address = count_fields (codes "{") address (count_at counts address) (codes "}")
 
 abbrev pub outside_objects : List Statement → List Count → List ℕ → List (List ℕ)
 outside_objects statements counts addresses = map (outside_object counts) (filter (is_outside statements counts) addresses)
 
--- the numbers of the lines that were never done
+-- the numbers of the lines that were never executed
 abbrev pub never_numbers : List Count → List Statement → List (List ℕ)
 never_numbers counts statements = map (λ s. decimal s.line) (filter (is_never_done counts) statements)
 
@@ -88,7 +88,7 @@ never_numbers counts statements = map (λ s. decimal s.line) (filter (is_never_d
 abbrev pub cause_string : Cause → List ℕ
 cause_string cause = concat (codes "\"" ∷ cause_name cause ∷ codes "\"" ∷ [])
 
--- all steps and cycles, and what comes before the causes
+-- all steps and cycles, and what is before the causes
 unfoldable pub sum_fields : ℕ → ℕ → List ℕ
 sum_fields steps cycles = concat (
     codes "{\"steps\":" ∷ decimal steps ∷ codes ",\"cycles\":" ∷ decimal cycles ∷ codes ",\"causes\":[" ∷ [])

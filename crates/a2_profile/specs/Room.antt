@@ -13,11 +13,11 @@ joined_totals t other = record {
   all_cycles = t.all_cycles + other.all_cycles;
 }
 
--- how often a routine was entered, and its steps with those of what it calls, do not reach 2^64
+-- how often a routine was entered, and its steps including what it calls, are below 2^64
 abbrev pub Fit : Totals → Totals → Type 0
 Fit t other = (t.times + other.times < 2 ^ 64) × (t.all_steps + other.all_steps < 2 ^ 64)
 
--- that holds of each routine, and neither do all steps and cycles
+-- that is so for each routine, and for all steps and cycles
 pub record HaveRoom (totals others : List Totals) : Type 0 where
   pub each : (routine : ℕ) → Fit (totals_at totals routine) (totals_at others routine)
   pub steps : own_steps_in totals + own_steps_in others < 2 ^ 64

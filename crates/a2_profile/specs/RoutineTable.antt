@@ -20,8 +20,8 @@ abbrev pub routine_heading : List ℕ
 routine_heading =
     routine_cells (codes "TIMES") (codes "STEPS") (codes "CYCLES") (codes "SHARE") (codes "ALL STEPS") (codes "ALL CYCLES") (codes "SHARE") (codes "ROUTINE") []
 
--- the row of a routine: how often it was entered, its own steps and cycles with their share of all cycles, and those with what
--- it calls
+-- the row of a routine: how often it was entered, its own steps and cycles with their share of all cycles, and the same including
+-- what it calls
 abbrev pub totals_row : ℕ → List ℕ → Totals → List ℕ → List ℕ → List ℕ
 totals_row all times t label name =
     routine_cells times (decimal t.steps) (decimal t.cycles) (share_digits (per_mille t.cycles all)) (decimal t.all_steps)
@@ -35,11 +35,11 @@ abbrev pub named : Option (List ℕ × ℕ) → List ℕ
 named None = []
 named (Some entry) = entry.0
 
--- the first name that stands for an address, if there is one
+-- the first name with an address as its value, if there is one
 abbrev pub name_of : Names → ℕ → List ℕ
 name_of names address = named (find (λ entry. entry.1 == address) names)
 
--- the row of a routine that was entered, by its address and its name
+-- the row of a routine that was entered, with its address and its name
 abbrev pub routine_row : Names → List Totals → ℕ → List ℕ
 routine_row names totals address =
     if (totals_at totals address).times == 0 then []
@@ -51,6 +51,6 @@ routine_rows names totals = rows_from (routine_row names totals) 0 65536
 abbrev pub routine_sums : List Totals → List ℕ
 routine_sums totals = sum_line (decimal (own_steps_in totals)) (decimal (own_cycles_in totals))
 
--- all of it
+-- the whole table
 abbrev pub routine_table : Assembled → List Totals → List ℕ
 routine_table program totals = routine_heading ++ (itself_row totals ++ (routine_rows program.names totals ++ routine_sums totals))

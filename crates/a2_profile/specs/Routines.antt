@@ -1,4 +1,4 @@
--- What is done in the routines of a run. A routine is entered by a JSR, and left as `entered` says. This project's profile.
+-- What is executed in the routines of a run. A routine is entered by a JSR, and left as `entered` says. This project's profile.
 use Rattle.std.specs.Prelude.{◌≡◌, ℕ, suc, ◌-◌, ◌<◌, ◌==◌, ◌&&◌, Bool, List, ◌∷◌, map, length, slice_index, if◌then◌else◌}
 use Rattle.std.specs.List.{list_any}
 use Rattle.a2_asm.specs.Assembled.{Assembled}
@@ -16,22 +16,22 @@ use Rattle.a2_profile.specs.Totals.{itself, totals_at, own_steps_in, own_cycles_
 abbrev pub begin_of : (ℕ → World) → Entry → ℕ
 begin_of worlds entry = (worlds (suc entry.position)).registers.pc
 
--- what a step is made in, the outermost first: the program itself, and the routines entered and not left
+-- what a step is executed in, the outermost first: the program itself, and the routines entered and not left
 abbrev pub around : (ℕ → World) → ℕ → List ℕ
 around worlds n = itself ∷ map (begin_of worlds) (entered worlds n)
 
 abbrev pub innermost : List ℕ → ℕ
 innermost routines = slice_index routines (length routines - 1)
 
--- it is made in a routine, or in what that calls; a routine that calls itself is one
+-- the step is executed in a routine, or in what that calls; a routine that calls itself counts once
 abbrev pub is_in : (ℕ → World) → ℕ → ℕ → Bool
 is_in worlds routine n = list_any (λ r. r == routine) (around worlds n)
 
--- it is the routine's own
+-- the step is the routine's own
 abbrev pub is_own : (ℕ → World) → ℕ → ℕ → Bool
 is_own worlds routine n = innermost (around worlds n) == routine
 
--- it is a JSR to the routine
+-- the step is a JSR to the routine
 abbrev pub is_entry : (ℕ → World) → ℕ → ℕ → Bool
 is_entry worlds routine n = is_call (worlds n) && is_at (worlds (suc n)) routine
 
@@ -39,7 +39,7 @@ is_entry worlds routine n = is_call (worlds n) && is_at (worlds (suc n)) routine
 abbrev pub cost : (ℕ → World) → ℕ → ℕ
 cost worlds n = (worlds (suc n)).cycles - (worlds n).cycles
 
--- the totals of a routine over the first n steps: how often it was entered, its own steps with their cycles, and those with
+-- the totals of a routine over the first n steps: how often it was entered, its own steps with their cycles, and the same including
 -- what it calls
 unfoldable pub totals_of : (ℕ → World) → ℕ → ℕ → Totals
 totals_of worlds n routine = record {
@@ -50,8 +50,8 @@ totals_of worlds n routine = record {
   all_cycles = over_steps (λ k. if is_in worlds routine k then cost worlds k else 0) n;
 }
 
--- a run with a limit ends by this cause, and these are the totals of its routines and of the program itself, whose own steps
--- and cycles together are the run's
+-- a run with a limit ends by this cause, and these are the totals of its routines and of the program itself; their own steps and
+-- cycles together are those of the run
 pub record AreTotals (code : Code) (start : World) (limit : ℕ) (totals : List Totals) (cause : Cause) : Type 0 where
   pub end : End
   pub is_end : IsEnd code start limit end
@@ -60,6 +60,6 @@ pub record AreTotals (code : Code) (start : World) (limit : ℕ) (totals : List 
   pub steps_are : own_steps_in totals ≡ end.steps
   pub cycles_are : own_cycles_in totals ≡ end.world.cycles
 
--- the same of a program's run with these keys waiting, by the code and start of the run that `IsRun` speaks of
+-- the same of a program's run with these keys waiting, with the code and start of the run of `IsRun`
 abbrev pub IsRoutineProfile : Assembled → List ℕ → ℕ → Bool → List Totals → Cause → Type 0
 IsRoutineProfile program keys limit free totals cause = AreTotals (code_of_run free program) (start_of_run program keys) limit totals cause

@@ -1,4 +1,4 @@
--- How often the steps of a run are made, by the address where they begin, and what they cost. This project's profile.
+-- How often the steps of a run are executed, by the address where they begin, and what they cost. This project's profile.
 use Rattle.std.specs.Prelude.{◌≡◌, ℕ, zero, suc, ◌+◌, ◌-◌, ◌%◌, ◌<◌, ◌==◌, ◌&&◌, not, Bool, List, if◌then◌else◌}
 use Rattle.a2_asm.specs.Assembled.{Assembled}
 use Rattle.a2_services.specs.World.{World}
@@ -26,7 +26,7 @@ cycles_at code start address n =
     over_steps (λ k. if is_at (world_at code start k) address
     then (world_at code start (suc k)).cycles - (world_at code start k).cycles else 0) n
 
--- how many of them do not go on two bytes further, where a branch goes on that is not taken
+-- how many of them do not continue two bytes further, where a branch continues that is not taken
 unfoldable pub taken_at : Code → World → ℕ → ℕ → ℕ
 taken_at code start address n =
     over_steps (λ k. if is_at (world_at code start k) address && not (is_at (world_at code start (suc k)) ((address + 2) % 65536))
@@ -40,8 +40,8 @@ count_of code start n address = record {
   taken = taken_at code start address n;
 }
 
--- a run with a limit ends by this cause, and these are the counts of its steps: at each address; and all together are the
--- run's steps and cycles
+-- a run with a limit ends by this cause, and these are the counts of its steps at each address; all together are the run's steps
+-- and cycles
 pub record AreCounts (code : Code) (start : World) (limit : ℕ) (counts : List Count) (cause : Cause) : Type 0 where
   pub end : End
   pub is_end : IsEnd code start limit end
@@ -50,6 +50,6 @@ pub record AreCounts (code : Code) (start : World) (limit : ℕ) (counts : List 
   pub steps_are : steps_in counts ≡ end.steps
   pub cycles_are : cycles_in counts ≡ end.world.cycles
 
--- the same of a program's run with these keys waiting, by the code and start of the run that `IsRun` speaks of
+-- the same of a program's run with these keys waiting, with the code and start of the run of `IsRun`
 abbrev pub IsProfile : Assembled → List ℕ → ℕ → Bool → List Count → Cause → Type 0
 IsProfile program keys limit free counts cause = AreCounts (code_of_run free program) (start_of_run program keys) limit counts cause

@@ -1,4 +1,4 @@
--- Several runs of one program, each from the start with keys of its own, and what they come to together. This project's profile.
+-- Several runs of one program, each from the start with keys of its own, and their sums. This project's profile.
 use Rattle.std.specs.Prelude.{◌≡◌, ℕ, Bool, true, false, List, All, map, find, unwrap_or}
 use Rattle.std.specs.List.{sum_by}
 use Rattle.a2_asm.specs.Assembled.{Assembled}
@@ -17,7 +17,7 @@ pub record Ran (T : Type 0) : Type 0 where
   pub counted : T
   pub cause : Cause
 
--- these runs have the keys, one after another, and end by the causes
+-- these runs have the keys, in this order, and end by the causes
 pub record AreRuns {T : Type 0} (IsRun : List ℕ → T → Cause → Type 0) (runs : List (Ran T))
     (keys : List (List ℕ)) (causes : List Cause) : Type 0 where
   pub each : All (λ run. IsRun run.keys run.counted run.cause) runs
@@ -41,8 +41,8 @@ totals_of_all runs routine = record {
   all_cycles = sum_by (λ run. (totals_at run.counted routine).all_cycles) runs;
 }
 
--- the runs of a program with these keys end by the causes, and the counts are the sums over them: at each address, and of all
--- steps and cycles
+-- the runs of a program with these keys end by the causes, and the counts are the sums over them, at each address and of all steps
+-- and cycles
 pub record IsProfileOfAll (program : Assembled) (keys : List (List ℕ)) (limit : ℕ) (free : Bool)
     (counts : List Count) (causes : List Cause) : Type 0 where
   pub runs : List (Ran (List Count))
@@ -64,6 +64,6 @@ abbrev pub is_stop : Cause → Bool
 is_stop Returned = false
 is_stop _ = true
 
--- the cause that stands for all: the first that is not RETURNED, and else that
+-- the cause that stands for all: the first that is not RETURNED, or else that
 abbrev pub first_stop : List Cause → Cause
 first_stop causes = unwrap_or (find is_stop causes) Returned

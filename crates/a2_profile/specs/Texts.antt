@@ -14,8 +14,7 @@ use Rattle.a2_profile.specs.RoutineTable.{routine_table}
 use Rattle.a2_profile.specs.Json.{json_profile, json_routines}
 use Rattle.a2_profile.specs.Callgrind.{callgrind_profile, callgrind_routines}
 
--- what is written of a profile, of a program whose source has this name and these lines, and of its runs, which end by these
--- causes
+-- what is written of a profile of a program, whose source has this name and these lines, and whose runs end by these causes
 abbrev pub profile_text : Format → List ℕ → Assembled → List (List ℕ) → List Count → List Cause → List ℕ
 profile_text Text name program texts counts causes = profile_table program texts counts
 profile_text Json name program texts counts causes = json_profile program texts counts causes

@@ -1,4 +1,4 @@
--- A run that was walked along. No public clause cites this file.
+-- A run with a walk along it. No public clause cites this file.
 use Rattle.std.specs.Prelude.{◌≡◌, ℕ, ◌<◌}
 use Rattle.a2_services.specs.World.{World}
 use Rattle.a2_machine.specs.declared.causes.Cause.{Cause}
@@ -6,7 +6,7 @@ use Rattle.a2_machine.specs.Meaning.{Code, End, IsEnd, world_at}
 use Rattle.a2_profile.specs.Routines.{totals_of}
 use Rattle.a2_profile.specs.Walks.{Walk, seen_at}
 
--- with a limit it ends by this cause, and of each routine its totals are seen
+-- with a limit the run ends by this cause, and the totals of each routine are seen
 pub record IsWalked (code : Code) (start : World) (limit : ℕ) (walk : Walk) (cause : Cause) : Type 0 where
   pub end : End
   pub is_end : IsEnd code start limit end

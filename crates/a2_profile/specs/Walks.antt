@@ -1,7 +1,7 @@
 -- What a walk through a run knows of its routines. No public clause cites this file.
 use Rattle.std.specs.Prelude.{◌≡◌, ℕ, zero, suc, ◌+◌, ◌-◌, ◌*◌, ◌<◌, ◌≤◌, ◌==◌, ◌&&◌, nat_le, nat_lt, not, Bool, List, [], ◌∷◌, ◌++◌, length, take, slice_index_or, slice_set, if◌then◌else◌}
 use Rattle.std.specs.List.{All, AllPairs, count_by}
-use Rattle.a2_burst.specs.declared.observer.Look.{Look}
+use Rattle.a2_burst.specs.declared.observer.StepView.{StepView}
 use Rattle.a2_burst.specs.Shown.{Shown}
 use Rattle.a2_profile.specs.declared.walk.Frame.{Frame}
 use Rattle.a2_profile.specs.declared.walk.Opening.{Opening}
@@ -9,7 +9,7 @@ use Rattle.a2_profile.specs.declared.walk.Totals.{Totals}
 use Rattle.a2_profile.specs.Seeing.{is_small}
 use Rattle.a2_profile.specs.Totals.{itself, totals_at, own_steps_in, own_cycles_in}
 
--- the routines that are entered and not left, what is counted of each, since when it is, and the steps and cycles so far
+-- the routines that are entered and not left, what is counted of each, since when it is entered, and the steps and cycles so far
 pub record Walk : Type 0 where
   pub frames : List Frame
   pub totals : List Totals
@@ -37,7 +37,7 @@ inner frames = (frame_at frames (length frames - 1)).routine
 abbrev pub depth_of : ℕ → List Frame → ℕ
 depth_of routine frames = count_by (λ f. f.routine == routine) frames
 
--- a count with that since a routine was entered, if it is
+-- a count with what was added since a routine was entered, if it is
 abbrev pub with_open : ℕ → ℕ → ℕ → ℕ → ℕ
 with_open now depth done since = done + (if depth == 0 then 0 else now - since)
 
@@ -82,7 +82,7 @@ pub record IsWalk (walk : Walk) : Type 0 where
   pub few : walk.steps ≤ most_steps
   pub cheap : walk.cycles ≤ most_steps * walk.steps
 
--- a step of so many cycles was made in the innermost
+-- a step of so many cycles was executed in the innermost routine
 abbrev pub counted : ℕ → Walk → Walk
 counted cost walk =
     let i = inner walk.frames in
@@ -98,7 +98,7 @@ noted routine walk =
     let t = totals_at walk.totals routine in
     record walk { totals = slice_set walk.totals routine (record t { times = t.times + 1 }) }
 
--- it is entered
+-- the routine is entered
 abbrev pub opened : ℕ → ℕ → Walk → Walk
 opened routine s walk =
     let o = opening_at walk.openings routine in record walk {
@@ -110,7 +110,7 @@ opened routine s walk =
       });
     }
 
--- the innermost is left
+-- the innermost routine is left
 abbrev pub left : Walk → Walk
 left walk =
     let i = inner walk.frames in
@@ -124,11 +124,11 @@ left walk =
       openings = slice_set walk.openings i (record o { depth = o.depth - 1 });
     }
 
--- a stack pointer is not below that before the innermost, if there is one
+-- a stack pointer is not below that before the innermost routine, if there is one
 abbrev pub leaves : ℕ → Walk → Bool
 leaves s walk = not (length walk.frames == 0) && nat_le (frame_at walk.frames (length walk.frames - 1)).s s
 
--- all are left that it is not below
+-- all routines are left that it is not below
 abbrev pub left_many : ℕ → ℕ → Walk → Walk
 left_many s zero walk = walk
 left_many s (suc n) walk = if leaves s walk then left_many s n (left walk) else walk
@@ -143,23 +143,23 @@ entered routine s walk = if leaves s walk then walk else opened routine s (noted
 abbrev pub has_room : Walk → Bool
 has_room walk = nat_lt walk.steps most_steps && not (length walk.frames == 0)
 
--- a step that is seen is counted, and what it enters and leaves
-abbrev pub with_call : Look → Walk → Walk
+-- a step that is seen is counted, with what it enters and leaves
+abbrev pub with_call : StepView → Walk → Walk
 with_call look walk = if look.opcode == 0x20 then entered look.next_pc look.s walk else walk
 
-abbrev pub with_made : Look → Walk → Walk
+abbrev pub with_made : StepView → Walk → Walk
 with_made look walk = left_below look.next_s (with_call look (counted look.cycles walk))
 
 -- what no observer sees leaves no totals
 abbrev pub lost : Walk
 lost = record { frames = []; totals = []; openings = []; steps = 0; cycles = 0 }
 
--- the walk behind a look: so where there are totals, each look was seen
-abbrev pub with_look : Walk → Look → Walk
+-- the walk after a step that is seen: so if there are totals, each step was seen
+abbrev pub with_look : Walk → StepView → Walk
 with_look walk look =
     if is_small look && (length walk.totals == 65537) then (if has_room walk then with_made look walk else walk) else lost
 
--- and behind what is shown of a step
+-- and after what is shown of a step
 abbrev pub shown_to : Walk → Shown → Walk
 shown_to walk shown = with_look walk shown.look
 

@@ -1,4 +1,4 @@
-//! What is written of all addresses, one after another.
+//! Texts of all addresses, written one after another.
 
 ghost use Rattle.std.specs.Prelude.{ℕ, List};
 ghost use Rattle.a2_stream.specs.Stream.{SendsOrBreaks};
@@ -7,12 +7,12 @@ ghost use Rattle.a2_profile.specs.Table.{rows_from};
 use crate::profile::ADDRESSES;
 use a2_stream::{Output, WriteFault};
 
-/// What is written of each address, which may be nothing.
+/// What is written of each address; it may be nothing.
 pub(crate) trait ByAddress {
     /// The text of an address.
     ghost text: { Self → ℕ → List ℕ };
 
-    /// Writes it.
+    /// Writes the text of an address.
     fn put<W: Output>(&self, address: u16, writer: &mut W) -> Result<(), WriteFault>
         ensures { SendsOrBreaks (W.taker writer.old) (W.taker writer.new) result (text self.now address) };
 }

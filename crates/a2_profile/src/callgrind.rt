@@ -1,4 +1,4 @@
-//! A profile in the form of Callgrind's files.
+//! A profile in the format of Callgrind's files.
 
 ghost use Rattle.std.specs.Prelude.{◌≡◌, ◌==◌, ◌∷◌, if◌then◌else◌, length, map};
 ghost use Rattle.a2_text.specs.Digits.{hex_word as hex_word_of};
@@ -15,7 +15,7 @@ use a2_symbols::instruction_on;
 use a2_text::{decimal, hex_word};
 use std::alloc::Allocator;
 
-// A byte of a file's name; a control byte, which would end a line, as ?.
+// Returns a byte of a file's name, with `?` for a control byte, which would end a line.
 fn shown_byte(byte: u8) -> u8
     ensures { result ≡ callgrind.shown_byte byte }
 {
@@ -35,7 +35,7 @@ fn put_name<W: Output>(name: &[u8], writer: &mut W) -> Result<(), WriteFault>
     put(b"\n", writer)
 }
 
-// Writes what stands first, up to the source's name.
+// Writes the beginning, up to the source's name.
 #[tactic(auto, unfolding(crate::specs::Callgrind::heading))]
 fn put_heading<W: Output>(steps: u64, cycles: u64, writer: &mut W) -> Result<(), WriteFault>
     ensures { SendsOrBreaks (W.taker writer.old) (W.taker writer.new) result (callgrind.heading steps cycles) }
@@ -75,7 +75,7 @@ fn put_cost<W: Output>(line: u64, steps: u64, cycles: u64, writer: &mut W) -> Re
     )
 }
 
-// Writes how a function in a file begins.
+// Writes the first lines of a function in a file.
 #[tactic(auto, unfolding(crate::specs::Callgrind::function_head))]
 fn put_function_head<'a, W: Output>(
     file: &'a [u8],
@@ -104,7 +104,7 @@ fn put_function<'a, W: Output>(
     put_cost(line, steps, cycles, writer)
 }
 
-// The name of what begins at an address, or else these digits of it.
+// Returns the name of what begins at an address, or else these digits of the address.
 fn name_or<'a, A: Allocator>(program: &'a Program<A>, address: u16, digits: &'a [u8; 5]) -> &'a [u8]
     ensures { result.now ≡ (if length (name_at program.now.names address) == 0 then digits.now
         else name_at program.now.names address) }
@@ -113,7 +113,7 @@ fn name_or<'a, A: Allocator>(program: &'a Program<A>, address: u16, digits: &'a 
     if name.is_empty() { digits } else { name }
 }
 
-// The digits of an address behind a $.
+// Returns the digits of an address after a $.
 fn address_digits(address: u16) -> [u8; 5]
     ensures { result ≡ 0x24 ∷ hex_word_of address }
 {
@@ -121,7 +121,7 @@ fn address_digits(address: u16) -> [u8; 5]
     [b'$', a, b, c, d]
 }
 
-// Writes the cost of the instruction on a line, if one stands there and was done.
+// Writes the cost of the instruction on a line, if there is one and it was executed.
 fn put_line<A: Allocator, W: Output>(
     profile: &Profile<A>,
     statement: Option<Statement>,
@@ -160,7 +160,7 @@ fn put_lines<A: Allocator, W: Output>(
     Ok(())
 }
 
-// The functions of the addresses where steps began and no instruction of the source stands.
+// The functions of the addresses where steps began and there is no instruction of the source.
 #[derive(Drop)]
 struct OutsideRecords<'a, A: Allocator, B: Allocator> {
     program: &'a Program<B>,
@@ -181,15 +181,15 @@ impl<'a, A: Allocator, B: Allocator> ByAddress for OutsideRecords<'a, A, B> {
     }
 }
 
-/// Writes a profile of `program`, whose source has this name and these lines, in the form of Callgrind's files, as
-/// `callgrind_annotate` and KCachegrind read them. The events are `Steps` and `Cycles`. Each line with an instruction that was
-/// done has its steps and cycles in the function `THE SOURCE` of the file `name`; each other address where steps began is a
-/// function of the file `???`, named by the source or as `$FDED`. A control byte of `name` stands as `?`. Valgrind's "Callgrind
-/// Format Specification", version 1; which functions there are is this project's profile.
+/// Writes a profile of `program`, whose source has this name and these lines, in the format of Callgrind's files, for
+/// `callgrind_annotate` and KCachegrind. The events are `Steps` and `Cycles`. Each line with an instruction that was executed has
+/// its steps and cycles in the function `THE SOURCE` of the file `name`. Each other address where steps began is a function of the
+/// file `???`, with its name in the source or as `$FDED`. A control byte of `name` is written as `?`. Valgrind's "Callgrind Format
+/// Specification", version 1; the choice of functions is this project's profile.
 ///
 /// # Errors
 ///
-/// `WriteFault` at the first write that failed, which is the last one made: a front of the file went out.
+/// `WriteFault` if a write failed: no further write follows, and a front of the file was written.
 pub fn write_callgrind<A: Allocator, B: Allocator, W: Output>(
     name: &[u8],
     program: &Program<B>,
@@ -206,7 +206,7 @@ pub fn write_callgrind<A: Allocator, B: Allocator, W: Output>(
     put_each(&OutsideRecords { program, profile }, writer)
 }
 
-// The line of the instruction that begins at an address, or 0.
+// Returns the line of the instruction that begins at an address, or 0.
 fn line_at(statements: &[Statement], address: u16) -> u16
     ensures { result ≡ callgrind.line_at statements.now address }
 {
@@ -218,7 +218,7 @@ fn line_at(statements: &[Statement], address: u16) -> u16
     0
 }
 
-// Writes a routine that begins on a line, or on none of the source.
+// Writes a routine that begins on a line, or on no line of the source.
 fn put_totals<W: Output>(
     name: &[u8],
     line: u16,
@@ -272,14 +272,14 @@ fn put_itself<A: Allocator, B: Allocator, W: Output>(
     put_totals(b"THE PROGRAM ITSELF", line, profile.itself(), writer)
 }
 
-/// Writes a profile of `program` by routine, whose source has this name, in the form of Callgrind's files. The program itself and
+/// Writes a profile of `program` by routine, whose source has this name, in the format of Callgrind's files. The program itself and
 /// each routine that was entered is a function with its own `Steps` and `Cycles`, at the line of the file `name` where it begins;
-/// or in the file `???`, where no instruction of the source stands there. A control byte of `name` stands as `?`. Valgrind's
-/// "Callgrind Format Specification", version 1; which functions there are is this project's profile.
+/// or in the file `???` if no instruction of the source is there. A control byte of `name` is written as `?`. Valgrind's "Callgrind
+/// Format Specification", version 1; the choice of functions is this project's profile.
 ///
 /// # Errors
 ///
-/// `WriteFault` at the first write that failed, which is the last one made: a front of the file went out.
+/// `WriteFault` if a write failed: no further write follows, and a front of the file was written.
 pub fn write_routine_callgrind<A: Allocator, B: Allocator, W: Output>(
     name: &[u8],
     program: &Program<B>,

@@ -8,7 +8,7 @@ use crate::walk::no_totals;
 use crate::{ProfileFull, RoutineProfile, Totals};
 use std::alloc::{AllocError, Allocator};
 
-// The totals of both.
+// Returns the totals of both.
 fn joined(totals: Totals, other: Totals) -> Totals
     requires times { totals.times + other.times < 2 ^ 64 }
     requires steps { totals.steps + other.steps < 2 ^ 64 }
@@ -26,7 +26,7 @@ fn joined(totals: Totals, other: Totals) -> Totals
     }
 }
 
-// Whether what is not bounded by the sums fits.
+// Returns whether the numbers fit that the sums do not bound.
 fn fit(totals: Totals, other: Totals) -> bool
     ensures { (result ≡ true) ↔ Fit totals other }
 {
@@ -34,7 +34,7 @@ fn fit(totals: Totals, other: Totals) -> bool
         && totals.all_steps.checked_add(other.all_steps).is_some()
 }
 
-// Whether that holds of each routine.
+// Returns whether that is so for each routine.
 fn all_fit(totals: &[Totals], others: &[Totals]) -> bool
     requires size { length totals.now ≡ 65537 }
     requires others { length others.now ≡ 65537 }
@@ -48,7 +48,7 @@ fn all_fit(totals: &[Totals], others: &[Totals]) -> bool
     true
 }
 
-// Adds to the totals of each routine the other ones.
+// Adds the totals of each routine to the others.
 fn join_totals(totals: &mut [Totals], others: &[Totals])
     requires size { length totals.old ≡ 65537 }
     requires others { length others.now ≡ 65537 }
@@ -69,7 +69,7 @@ fn join_totals(totals: &mut [Totals], others: &[Totals])
 }
 
 impl<A: Allocator> RoutineProfile<A> {
-    /// A profile of no steps, in memory of `alloc`. Refused only for want of memory.
+    /// Returns a profile of no steps, in memory of `alloc`. Fails only if there is not enough memory.
     pub fn new(alloc: A) -> Result<RoutineProfile<A>, AllocError>
         ensures { IfOk result (λ profile. profile ≡ replicate 65537 nothing) }
     {
@@ -80,8 +80,8 @@ impl<A: Allocator> RoutineProfile<A> {
         })
     }
 
-    /// Counts what is counted in `other` too. Refused exactly where a sum would pass 2^64 - 1: how often a routine was entered,
-    /// its steps with those of what it calls, or all steps or cycles; and then nothing changes.
+    /// Also counts what is counted in `other`. Fails exactly if a sum would exceed 2^64 - 1: how often a routine was entered, its
+    /// steps with those of what it calls, or all steps or cycles; then nothing changes.
     pub fn join<B: Allocator>(&mut self, other: &RoutineProfile<B>) -> Result<(), ProfileFull>
         ensures room { IsOk result ↔ HaveRoom self.old other.now }
         ensures joined { OnOk result ((routine : ℕ) → totals_at self.new routine

@@ -1,4 +1,4 @@
-//! A profile as an object of JSON.
+//! A profile as a JSON object.
 
 ghost use Rattle.std.specs.Prelude.{◌≡◌, ◌<◌, ◌++◌, ◌∷◌, ℕ, List, All, false, Some, codes, map};
 ghost use Rattle.std.specs.Fmt.{decimal as decimal_of};
@@ -16,14 +16,14 @@ use a2_symbols::instruction_on;
 use a2_text::{decimal, json_escape};
 use std::alloc::Allocator;
 
-// What stands between two items of an array.
+// What is between two items of an array.
 pub(crate) const COMMA: &[u8] = b",\n";
 
-/// A theorem, and no code: no text ends the string that its escapes stand in. A reader of JSON finds behind the open string just
-/// what stands behind its last quote.
+/// A law, and no code: no text ends the string that its escapes are in. A reader of JSON finds, after the open string, exactly what
+/// follows its last quote.
 pub fn no_text_ends_its_string()
     ensures { (text rest : List ℕ) → All (λ byte. byte < 256) text
-        → json.behind_string false (json.escapes text ++ 0x22 ∷ rest) ≡ Some rest }
+        → json.after_string false (json.escapes text ++ 0x22 ∷ rest) ≡ Some rest }
 {}
 
 // Writes a text between the quotes of a string.
@@ -37,7 +37,7 @@ fn put_escapes<W: Output>(text: &[u8], writer: &mut W) -> Result<(), WriteFault>
     Ok(())
 }
 
-// Writes a text so, between what stands before it and behind it.
+// Writes a text as a string, between the texts before and after it.
 pub(crate) fn put_string<W: Output>(
     front: &[u8],
     text: &[u8],
@@ -51,7 +51,7 @@ pub(crate) fn put_string<W: Output>(
     put(end, writer)
 }
 
-// Writes what is counted at an address, between these.
+// Writes what is counted at an address, between these texts.
 #[tactic(auto, unfolding(crate::specs::Json::count_fields))]
 fn put_count<W: Output>(
     front: &[u8],
@@ -80,7 +80,7 @@ fn put_count<W: Output>(
     )
 }
 
-// Writes of a branch how often it was taken, and how often not.
+// Writes how often a branch was taken, and how often not.
 #[tactic(auto, unfolding(crate::specs::Json::branch_fields))]
 fn put_branch<W: Output>(is_branch: bool, count: Count, writer: &mut W) -> Result<(), WriteFault>
     ensures { SendsOrBreaks (W.taker writer.old) (W.taker writer.new) result (json.branch_fields is_branch count) }
@@ -101,7 +101,7 @@ fn put_branch<W: Output>(is_branch: bool, count: Count, writer: &mut W) -> Resul
     )
 }
 
-// Writes what is counted of the instruction on a line, if one stands there.
+// Writes what is counted of the instruction on a line, if there is one.
 #[tactic(auto, using(a2_stream::proofs::Joined::broke_off, a2_stream::proofs::Joined::went_on))]
 fn put_statement<A: Allocator, W: Output>(
     profile: &Profile<A>,
@@ -118,7 +118,7 @@ fn put_statement<A: Allocator, W: Output>(
     put_branch(is_branch(&statement), count, writer)
 }
 
-// Writes how the object of a line begins.
+// Writes the beginning of the object of a line.
 #[tactic(auto, unfolding(crate::specs::Json::line_head))]
 fn put_head<W: Output>(number: usize, writer: &mut W) -> Result<(), WriteFault>
     ensures { SendsOrBreaks (W.taker writer.old) (W.taker writer.new) result (json.line_head number) }
@@ -127,7 +127,7 @@ fn put_head<W: Output>(number: usize, writer: &mut W) -> Result<(), WriteFault>
     put_all(&[b"{\"line\":", number.as_slice()], writer)
 }
 
-// Writes the object of a line, behind what stands before it.
+// Writes the object of a line, after the text before it.
 fn put_line<'a, A: Allocator, W: Output>(
     front: &'a [u8],
     profile: &Profile<A>,
@@ -189,7 +189,7 @@ fn put_outsides<A: Allocator, B: Allocator, W: Output>(
     Ok(())
 }
 
-// Writes a number, behind what stands before it.
+// Writes a number, after the text before it.
 fn put_number<'a, W: Output>(front: &'a [u8], number: u16, writer: &mut W) -> Result<(), WriteFault>
     ensures { SendsOrBreaks (W.taker writer.old) (W.taker writer.new) result (front.now ++ decimal_of number) }
 {
@@ -197,7 +197,7 @@ fn put_number<'a, W: Output>(front: &'a [u8], number: u16, writer: &mut W) -> Re
     put_all(&[front, number.as_slice()], writer)
 }
 
-// Writes the array of the numbers of the lines that were never done.
+// Writes the array of the numbers of the lines that were never executed.
 fn put_never<A: Allocator, W: Output>(
     profile: &Profile<A>,
     statements: &[Statement],
@@ -216,7 +216,7 @@ fn put_never<A: Allocator, W: Output>(
     Ok(())
 }
 
-// Writes a cause, behind what stands before it.
+// Writes a cause, after the text before it.
 fn put_cause<W: Output>(front: &[u8], cause: Cause, writer: &mut W) -> Result<(), WriteFault>
     ensures { SendsOrBreaks (W.taker writer.old) (W.taker writer.new) result (front.now ++ json.cause_string cause) }
 {
@@ -236,7 +236,7 @@ pub(crate) fn put_causes<W: Output>(causes: &[Cause], writer: &mut W) -> Result<
     Ok(())
 }
 
-// Writes all steps and cycles, and what comes before the causes.
+// Writes all steps and cycles, and what is before the causes.
 pub(crate) fn put_sums<W: Output>(steps: u64, cycles: u64, writer: &mut W) -> Result<(), WriteFault>
     ensures { SendsOrBreaks (W.taker writer.old) (W.taker writer.new) result (json.sum_fields steps cycles) }
 {
@@ -254,15 +254,15 @@ pub(crate) fn put_sums<W: Output>(steps: u64, cycles: u64, writer: &mut W) -> Re
     )
 }
 
-/// Writes a profile of `program`, whose source has these lines, as an object of JSON: all `steps` and `cycles`; `causes`, by
-/// which its runs ended; `lines`, each with its number and the line as `source`, and where an instruction stands there with its
-/// `address`, how many `times` it was done and its `cycles`, and of a branch with `taken` and `not_taken`; `outside`, the other
-/// addresses where steps began; and `never`, the numbers of the lines that were never done. A byte of a line that is no printing
-/// character of ASCII stands as `\u00C1`. This project's profile.
+/// Writes a profile of `program`, whose source has these lines, as a JSON object: all `steps` and `cycles`; `causes`, by which its
+/// runs ended; `lines`, each with its number and the line as `source`, and if it has an instruction, with its `address`, how many
+/// `times` it was executed and its `cycles`, and for a branch with `taken` and `not_taken`; `outside`, the other addresses where
+/// steps began; and `never`, the numbers of the lines that were never executed. A byte of a line that is not a printing ASCII
+/// character is written as `\u00C1`. This project's profile.
 ///
 /// # Errors
 ///
-/// `WriteFault` at the first write that failed, which is the last one made: a front of the object went out.
+/// `WriteFault` if a write failed: no further write follows, and a front of the object was written.
 pub fn write_json<A: Allocator, B: Allocator, W: Output>(
     program: &Program<B>,
     texts: &[&[u8]],

@@ -1,6 +1,6 @@
-//! How often each line of a source, and each of its routines, is done by its run, and what it costs.
+//! Counts how often a run executes each line of a source and each of its routines, and what that costs.
 //!
-//! How it is called is shown in CALLING.md.
+//! CALLING.md shows how to call it.
 #![tactic(auto)]
 
 mod addresses;
@@ -25,6 +25,6 @@ pub use routine_table::{name_of, write_routines};
 pub use routines::profile_routines;
 pub use run::profile_run;
 pub use runs::{first_stop, profile_routine_runs, profile_runs};
-pub use source::{Format, profile_source, profile_source_routines};
+pub use source::{Format, Runs, Style, profile_source, profile_source_routines};
 pub use table::write_profile;
 pub use walk::{RoutineProfile, Totals};

@@ -4,21 +4,21 @@ ghost use Rattle.std.specs.Prelude.{◌≡◌, ◌+◌, ◌^◌, ◌<◌, ◌≤
 ghost use Rattle.a2_profile.specs.Counts.{NoneTakenMore, AreSummed, count_at, steps_in, cycles_in, none, joined};
 ghost use Rattle.a2_profile.specs.Seeing.{shown_to};
 
-use a2_burst::{Look, Observer};
+use a2_burst::{Observer, StepView};
 use std::alloc::{AllocError, Allocator, Global};
 use std::marker::Model;
 
 /// How many addresses there are.
 pub(crate) const ADDRESSES: u32 = 0x1_0000;
 
-/// How often the step at an address was made, and what it cost.
+/// How often the step at an address was executed, and what it cost.
 #[derive(Clone, Copy, Debug, PartialEq, Eq)]
 pub struct Count {
     /// The steps that began there.
     pub times: u64,
     /// The cycles of the processor that they took.
     pub cycles: u64,
-    /// Those that did not go on two bytes further: of a branch, how often it was taken.
+    /// The steps that did not continue two bytes further: how often a branch was taken.
     pub taken: u64,
 }
 
@@ -29,18 +29,18 @@ const NONE: Count = Count {
     taken: 0,
 };
 
-// A count of no step for each address.
+// Returns a count of no step for each address.
 fn no_counts<A: Allocator>(alloc: A) -> Result<Vec<Count, A>, AllocError>
     ensures { IfOk result (λ counts. counts.items ≡ replicate 65536 none) }
 {
     vec![in alloc; NONE; ADDRESSES as usize]
 }
 
-/// Two profiles have more steps or cycles together than 64 bits can count.
+/// Two profiles together have more steps or cycles than 64 bits can count.
 #[derive(Clone, Copy, Debug, PartialEq, Eq)]
 pub struct ProfileFull;
 
-// The steps of both.
+// Returns the steps of both.
 fn joined(count: Count, other: Count) -> Count
     requires times { count.times + other.times < 2 ^ 64 }
     requires cycles { count.cycles + other.cycles < 2 ^ 64 }
@@ -74,7 +74,7 @@ impl<A: Allocator> Model for Profile<A> {
     ghost invariant = { λ p. AreSummed p.counts.items p.steps p.cycles };
 }
 
-// Adds to each count the other of its address.
+// Adds to each count the other one of its address.
 fn join_counts(counts: &mut [Count], others: &[Count])
     requires size { length counts.old ≡ 65536 }
     requires others { length others.now ≡ 65536 }
@@ -93,7 +93,7 @@ fn join_counts(counts: &mut [Count], others: &[Count])
 }
 
 impl<A: Allocator> Profile<A> {
-    /// A profile of no steps, in memory of `alloc`. Refused only for want of memory.
+    /// Returns a profile of no steps, in memory of `alloc`. Fails only if there is not enough memory.
     pub fn new(alloc: A) -> Result<Profile<A>, AllocError>
         ensures { IfOk result (λ profile. profile ≡ replicate 65536 none) }
     {
@@ -104,32 +104,32 @@ impl<A: Allocator> Profile<A> {
         })
     }
 
-    /// The count at `address`, $0000 to $FFFF.
+    /// Returns the count at `address`, $0000 to $FFFF.
     pub fn at(&self, address: u16) -> Count
         ensures count { result ≡ count_at self.now address }
         ensures size { length self.now ≡ 65536 }
-        // A law of every profile: no address has more cycles than all.
+        // A law of every profile: no address has more cycles than all together.
         ensures within { result.cycles ≤ cycles_in self.now }
     {
         self.counts[usize::from(address)]
     }
 
-    /// The steps of all addresses.
+    /// Returns the steps of all addresses.
     pub fn steps(&self) -> u64
         ensures { result ≡ steps_in self.now }
     {
         self.steps
     }
 
-    /// The cycles of all addresses.
+    /// Returns the cycles of all addresses.
     pub fn cycles(&self) -> u64
         ensures { result ≡ cycles_in self.now }
     {
         self.cycles
     }
 
-    /// Counts the steps of `other` too. Refused exactly where the steps or the cycles of both would pass 2^64 - 1, and then
-    /// nothing changes.
+    /// Also counts the steps of `other`. Fails exactly if the steps or the cycles of both would exceed 2^64 - 1; then nothing
+    /// changes.
     pub fn join<B: Allocator>(&mut self, other: &Profile<B>) -> Result<(), ProfileFull>
         ensures room { IsOk result ↔ ((steps_in self.old + steps_in other.now < 2 ^ 64)
             × (cycles_in self.old + cycles_in other.now < 2 ^ 64)) }
@@ -152,8 +152,7 @@ impl<A: Allocator> Profile<A> {
     }
 }
 
-/// Counts of the steps of a run that are seen as they are made, whose sums the run knows. Contracts see a list of 65,536
-/// counts.
+/// Counts of the steps of a run, seen as they are executed; the run knows their sums. Contracts see a list of 65,536 counts.
 #[derive(Drop)]
 pub(crate) struct Counting<A: Allocator = Global> {
     counts: Vec<Count, A>,
@@ -171,7 +170,7 @@ impl<A: Allocator> Model for Counting<A> {
 }
 
 impl<A: Allocator> Counting<A> {
-    /// Counts of no step.
+    /// Returns counts of no step.
     pub fn new(alloc: A) -> Result<Counting<A>, AllocError>
         ensures { IfOk result (λ counting. counting ≡ replicate 65536 none) }
     {
@@ -187,7 +186,7 @@ impl<A: Allocator> Counting<A> {
         let _ = &self.counts;
     }
 
-    /// The profile of these counts, which are so many steps and cycles together.
+    /// Returns the profile of these counts, which together are so many steps and cycles.
     pub fn profile(self, steps: u64, cycles: u64) -> Profile<A>
         requires { AreSummed self steps cycles }
         ensures { result ≡ self }
@@ -204,9 +203,9 @@ impl<A: Allocator> Counting<A> {
 impl<A: Allocator> Observer for Counting<A> {
     ghost seen = { shown_to };
 
-    // No count of a run comes to 2^64.
+    // No count of a run reaches 2^64.
     #[inline(always)]
-    fn see(&mut self, look: Look, _ram: &[u8]) {
+    fn see(&mut self, look: StepView, _ram: &[u8]) {
         let index = usize::from(look.pc);
         let count = self.counts[index];
         let is_taken = look.next_pc != look.pc.wrapping_add(2);

@@ -1,4 +1,4 @@
-//! A profile by routine as an object of JSON.
+//! A profile by routine as a JSON object.
 
 ghost use Rattle.std.specs.Prelude.{◌≡◌, ◌++◌};
 ghost use Rattle.a2_asm.specs.Entries.{entries};
@@ -14,7 +14,7 @@ use a2_stream::{Output, WriteFault, put, put_all};
 use a2_text::decimal;
 use std::alloc::Allocator;
 
-// Writes what is counted of a routine, to the end of its object.
+// Writes what is counted of a routine, up to the end of its object.
 #[tactic(auto, unfolding(crate::specs::Json::totals_fields))]
 fn put_totals<W: Output>(front: &[u8], totals: Totals, writer: &mut W) -> Result<(), WriteFault>
     ensures { SendsOrBreaks (W.taker writer.old) (W.taker writer.new) result (json.totals_fields front.now totals) }
@@ -58,7 +58,7 @@ fn put_entry<W: Output>(address: u16, times: u64, writer: &mut W) -> Result<(), 
     )
 }
 
-// Writes the object of a routine, behind what stands before it.
+// Writes the object of a routine, after the text before it.
 fn put_routine<A: Allocator, B: Allocator, W: Output>(
     front: &[u8],
     names: &Names<B>,
@@ -76,7 +76,7 @@ fn put_routine<A: Allocator, B: Allocator, W: Output>(
     put_totals(b"", totals, writer)
 }
 
-// Whether a routine was entered.
+// Returns whether a routine was entered.
 fn is_entered<A: Allocator>(profile: &RoutineProfile<A>, address: u16) -> bool
     ensures { result ≡ json.is_entered profile.now address }
 {
@@ -103,14 +103,14 @@ fn put_routines<A: Allocator, B: Allocator, W: Output>(
     Ok(())
 }
 
-/// Writes a profile of `program` by routine as an object of JSON: all `steps` and `cycles`; `causes`, by which its runs ended;
-/// `itself`, the program itself, with its own `steps` and `cycles`, and `all_steps` and `all_cycles` with those of what it calls;
-/// and `routines`, each that was entered, with the first `name` of the source that stands for it or an empty one, its `address`,
-/// how many `times` it was entered, and the same four. This project's profile.
+/// Writes a profile of `program` by routine as a JSON object: all `steps` and `cycles`; `causes`, by which its runs ended;
+/// `itself`, the program itself, with its own `steps` and `cycles`, and `all_steps` and `all_cycles` including what it calls; and
+/// `routines`, each that was entered, with its first `name` in the source or an empty one, its `address`, how many `times` it was
+/// entered, and the same four. This project's profile.
 ///
 /// # Errors
 ///
-/// `WriteFault` at the first write that failed, which is the last one made: a front of the object went out.
+/// `WriteFault` if a write failed: no further write follows, and a front of the object was written.
 pub fn write_routine_json<A: Allocator, B: Allocator, W: Output>(
     program: &Program<B>,
     profile: &RoutineProfile<A>,

@@ -90,7 +90,7 @@ fn put_totals<W: Output>(
     )
 }
 
-// What is told of the program itself.
+// Returns the label of the program itself.
 fn itself_text() -> &'static [u8]
     ensures { result.now ≡ Rattle.std.specs.Prelude.codes "THE PROGRAM ITSELF" }
 {
@@ -114,7 +114,7 @@ fn put_itself<A: Allocator, W: Output>(
     )
 }
 
-/// The first of these names that stands for an address, or nothing. This project's profile.
+/// Returns the first of these names with this address as its value, or nothing. This project's profile.
 pub fn name_of<A: Allocator>(names: &Names<A>, address: u16) -> &[u8]
     ensures { result.now ≡ table.name_of (entries names.now) address }
 {
@@ -174,13 +174,14 @@ fn put_heading<W: Output>(writer: &mut W) -> Result<(), WriteFault>
     )
 }
 
-/// Writes the table of a profile of `program` by routine: a row for the program itself, and for each routine that was entered,
-/// by their addresses, how often it was, its own steps and cycles and their share of all cycles, rounded down, and those with
-/// what it calls; its address, and the first name of the source that stands for it; and the sums. This project's profile.
+/// Writes the table of a profile of `program` by routine. There is a row for the program itself, and for each routine that was
+/// entered, in the order of their addresses: how often it was entered, its own steps and cycles and their share of all cycles,
+/// rounded down, and the same including what it calls; its address, and its first name in the source. The sums follow. This
+/// project's profile.
 ///
 /// # Errors
 ///
-/// `WriteFault` at the first write that failed, which is the last one made: a front of the table went out.
+/// `WriteFault` if a write failed: no further write follows, and a front of the table was written.
 pub fn write_routines<A: Allocator, B: Allocator, W: Output>(
     program: &Program<B>,
     profile: &RoutineProfile<A>,

@@ -1,4 +1,4 @@
-//! What is done in the routines of a run.
+//! What a run executes in its routines.
 
 ghost use Rattle.std.specs.Prelude.{◌≡◌, ◌<◌, ℕ, [], ◌∷◌, IfOk};
 ghost use Rattle.a2_machine.specs.State.{code_of, world_of_state};
@@ -15,7 +15,7 @@ use a2_machine::{Cause, Machine};
 use a2_run::started;
 use std::alloc::{AllocError, Allocator};
 
-// Makes the steps of a run from a machine's start, and walks along them.
+// Runs a machine from its start, and walks along the run.
 fn walk_machine<A: Allocator, B: Allocator>(
     machine: &mut Machine<A>,
     limit: u32,
@@ -29,15 +29,16 @@ fn walk_machine<A: Allocator, B: Allocator>(
     requires cycles { walk.old.cycles ≡ 0 }
     ensures { IsWalked (code_of machine.old.state) (world_of_state machine.old.state) limit walk.new result }
 {
-    // For the prover alone: a law of every walk, before the run and behind it.
+    // For the prover alone: a law of every walk, before the run and after it.
     walk.is_walk();
     let cause = machine.run_observed(limit, walk);
     walk.is_walk();
     cause
 }
 
-/// Runs `program` with these keys waiting, and counts its steps by the routines in which they are made; the cause of the run's
-/// end. `limit` is the most steps, `free` runs without the guard. Refused only for want of memory. This project's profile.
+/// Runs `program` with these keys waiting, and counts its steps by the routines in which they are executed. Also returns the cause
+/// of the run's end. `limit` is the most steps, `free` runs without the guard. Fails only if there is not enough memory. This
+/// project's profile.
 pub fn profile_routines<A: Allocator + Copy>(
     alloc: A,
     program: &Program<A>,

@@ -13,7 +13,7 @@ use a2_machine::{Cause, Machine};
 use a2_run::started;
 use std::alloc::{AllocError, Allocator};
 
-// Makes the steps of a run from a machine's start, each of which is counted as it is made.
+// Runs a machine from its start, and counts each step as it is executed.
 fn profile_machine<A: Allocator, B: Allocator>(
     machine: &mut Machine<A>,
     limit: u32,
@@ -25,14 +25,14 @@ fn profile_machine<A: Allocator, B: Allocator>(
     ensures { AreCounts (code_of machine.old.state) (world_of_state machine.old.state) limit result.0 result.1 }
 {
     let cause = machine.run_observed(limit, &mut counting);
-    // For the prover alone: so each look was one of a machine.
+    // For the prover alone: each step that was seen is one of a machine.
     counting.is_whole();
     let profile = counting.profile(machine.steps(), machine.cycles());
     (profile, cause)
 }
 
-/// Runs `program` with these keys waiting, and counts its steps; the cause of the run's end. `limit` is the most steps,
-/// `free` runs without the guard. Refused only for want of memory. This project's profile.
+/// Runs `program` with these keys waiting, and counts its steps. Also returns the cause of the run's end. `limit` is the most
+/// steps, `free` runs without the guard. Fails only if there is not enough memory. This project's profile.
 pub fn profile_run<A: Allocator + Copy>(
     alloc: A,
     program: &Program<A>,

@@ -10,7 +10,7 @@ use a2_bus::Keys;
 use a2_machine::Cause;
 use std::alloc::{AllocError, Allocator};
 
-/// The cause that stands for those of several runs: the first that is not [`Cause::Returned`], or else that. This project's
+/// Returns the first cause that is not [`Cause::Returned`], or else that: the one that stands for several runs. This project's
 /// profile.
 pub fn first_stop(causes: &[Cause]) -> Cause
     ensures { result ≡ runs_of.first_stop causes.now }
@@ -23,10 +23,10 @@ pub fn first_stop(causes: &[Cause]) -> Cause
     Cause::Returned
 }
 
-/// Runs `program` once for each item of `runs`, each time from the start and with those keys waiting, and adds up what is
-/// counted: at each address, and of all steps and cycles; the causes of the ends, in the order of `runs`. `limit` is the most
-/// steps of each run, `free` runs without the guard. Refused for want of memory, as of counters of more than 64 bits. This
-/// project's profile.
+/// Runs `program` once for each item of `runs`, each time from the start and with those keys waiting, and adds up the counts: at
+/// each address, and of all steps and cycles. Also returns the causes of the ends, in the order of `runs`. `limit` is the most
+/// steps of each run, `free` runs without the guard. Fails if there is not enough memory, or if a counter would need more than 64
+/// bits. This project's profile.
 pub fn profile_runs<A: Allocator + Copy>(
     alloc: A,
     program: &Program<A>,
@@ -48,10 +48,10 @@ pub fn profile_runs<A: Allocator + Copy>(
     Ok((profile, causes))
 }
 
-/// Runs `program` once for each item of `runs`, each time from the start and with those keys waiting, and adds up what is counted
-/// of each routine, and of all own steps and cycles; the causes of the ends, in the order of `runs`. `limit` is the most steps of
-/// each run, `free` runs without the guard. Refused for want of memory, as of counters of more than 64 bits. This project's
-/// profile.
+/// Runs `program` once for each item of `runs`, each time from the start and with those keys waiting, and adds up the counts of
+/// each routine, and of all own steps and cycles. Also returns the causes of the ends, in the order of `runs`. `limit` is the most
+/// steps of each run, `free` runs without the guard. Fails if there is not enough memory, or if a counter would need more than 64
+/// bits. This project's profile.
 pub fn profile_routine_runs<A: Allocator + Copy>(
     alloc: A,
     program: &Program<A>,

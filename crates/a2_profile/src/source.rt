@@ -1,8 +1,7 @@
 //! The profile of a source.
 
 ghost use Rattle.std.specs.Prelude.{◌≡◌, false, map};
-ghost use Rattle.a2_run.specs.Answers.{Answers, OfSource, is_read_fault};
-ghost use Rattle.a2_run.specs.Meaning.{IsRefused};
+ghost use Rattle.a2_run.specs.Answers.{Answers, is_read_fault};
 ghost use Rattle.a2_stream.specs.Stream.{SendsOrBreaks};
 ghost use Rattle.a2_profile.specs.Texts.{IsProfileOf, IsRoutineProfileOf, profile_text, routines_text};
 
@@ -13,23 +12,42 @@ use crate::{
 use a2_asm::Program;
 use a2_bus::Keys;
 use a2_machine::Cause;
-use a2_run::{RunFault, program_of};
+use a2_run::{AssembledText, RunFault};
 use a2_stream::{Output, WriteFault};
 use a2_text::cut;
 use std::alloc::Allocator;
 
-/// In which form a profile is written.
+/// The format of a profile.
 #[derive(Clone, Copy, Debug, PartialEq, Eq)]
 pub enum Format {
-    /// A table, as by [`write_profile`] and [`write_routines`].
+    /// A table, as from [`write_profile`] and [`write_routines`].
     Text,
-    /// An object, as by [`write_json`] and [`write_routine_json`].
+    /// A JSON object, as from [`write_json`] and [`write_routine_json`].
     Json,
-    /// A file for Callgrind's readers, as by [`write_callgrind`] and [`write_routine_callgrind`].
+    /// A file for Callgrind's readers, as from [`write_callgrind`] and [`write_routine_callgrind`].
     Callgrind,
 }
 
-// Writes a profile in a form.
+/// The runs that a profile counts together.
+#[derive(Clone, Copy)]
+pub struct Runs<'a> {
+    /// The keys that wait at the start of each run. There is one run for each item.
+    pub keys: &'a [Keys],
+    /// The most steps of each run, 0 to 2^32 - 1.
+    pub limit: u32,
+    /// Runs without the guard of the program's code.
+    pub free: bool,
+}
+
+/// How a profile is written.
+#[derive(Clone, Copy)]
+pub struct Style<'a> {
+    /// What the source is called, in a file for Callgrind's readers.
+    pub name: &'a [u8],
+    pub format: Format,
+}
+
+// Writes a profile in a format.
 fn put_profile<A: Allocator, B: Allocator, W: Output>(
     format: Format,
     name: &[u8],
@@ -49,7 +67,7 @@ fn put_profile<A: Allocator, B: Allocator, W: Output>(
     }
 }
 
-// Writes a profile by routine in a form.
+// Writes a profile by routine in a format.
 fn put_routines<A: Allocator, B: Allocator, W: Output>(
     format: Format,
     name: &[u8],
@@ -68,54 +86,61 @@ fn put_routines<A: Allocator, B: Allocator, W: Output>(
     }
 }
 
-/// Assembles a source, which is called `name`, runs it once for each item of `runs`, each time from the start and with those keys
-/// waiting, and writes its profile over all these runs in this format. `limit` is the most steps of each run, `free` runs without
-/// the guard. The causes are those of the ends, in the order of `runs`; [`first_stop`](crate::first_stop) is the one that stands
-/// for them. Refused where the source is, where a write fails, and for want of memory. This project's profile.
+/// Runs a source once for each item of `runs.keys`, each time from the start, and writes its profile over all these runs in this
+/// style. Returns the causes of the ends, in the order of the runs; [`first_stop`](crate::first_stop) chooses one of them. Fails if
+/// a write fails, or if there is not enough memory. This project's profile.
 pub fn profile_source<A: Allocator + Copy, W: Output>(
     alloc: A,
-    name: &[u8],
-    source: &[u8],
-    runs: &[Keys],
-    limit: u32,
-    free: bool,
-    format: Format,
+    assembled: &AssembledText<'_, A>,
+    runs: Runs<'_>,
+    style: Style<'_>,
     writer: &mut W,
 ) -> Result<Vec<Cause, A>, RunFault>
-    ensures meaning { Answers (OfSource (IsRefused source.now))
-        (λ causes. IsProfileOf format name.now source.now runs.now limit free causes.items)
+    ensures meaning { Answers (λ _. ⊥)
+        (λ causes. IsProfileOf style.entry.format style.entry.name.now assembled.now.text runs.entry.keys.now runs.entry.limit runs.entry.free causes.items)
         (W.taker writer.old) (W.taker writer.new) result }
     ensures no_reader { is_read_fault result ≡ false }
 {
-    let program = program_of(alloc, source)?;
-    let texts = cut(alloc, source)?;
-    let (profile, causes) = profile_runs(alloc, &program, runs, limit, free)?;
+    let program = assembled.program();
+    let texts = cut(alloc, assembled.text())?;
+    let (profile, causes) = profile_runs(alloc, program, runs.keys, runs.limit, runs.free)?;
     let (lines, ends) = (texts.as_slice(), causes.as_slice());
-    put_profile(format, name, &program, lines, &profile, ends, writer)?;
+    put_profile(
+        style.format,
+        style.name,
+        program,
+        lines,
+        &profile,
+        ends,
+        writer,
+    )?;
     Ok(causes)
 }
 
-/// Assembles a source, which is called `name`, runs it once for each item of `runs`, each time from the start and with those keys
-/// waiting, and writes its profile by routine over all these runs in this format. `limit` is the most steps of each run, `free`
-/// runs without the guard. The causes are those of the ends, in the order of `runs`; [`first_stop`](crate::first_stop) is the one
-/// that stands for them. Refused where the source is, where a write fails, and for want of memory. This project's profile.
+/// Runs a source once for each item of `runs.keys`, each time from the start, and writes its profile by routine over all these runs
+/// in this style. Returns the causes of the ends, in the order of the runs; [`first_stop`](crate::first_stop) chooses one of them.
+/// Fails if a write fails, or if there is not enough memory. This project's profile.
 pub fn profile_source_routines<A: Allocator + Copy, W: Output>(
     alloc: A,
-    name: &[u8],
-    source: &[u8],
-    runs: &[Keys],
-    limit: u32,
-    free: bool,
-    format: Format,
+    assembled: &AssembledText<'_, A>,
+    runs: Runs<'_>,
+    style: Style<'_>,
     writer: &mut W,
 ) -> Result<Vec<Cause, A>, RunFault>
-    ensures meaning { Answers (OfSource (IsRefused source.now))
-        (λ causes. IsRoutineProfileOf format name.now source.now runs.now limit free causes.items)
+    ensures meaning { Answers (λ _. ⊥)
+        (λ causes. IsRoutineProfileOf style.entry.format style.entry.name.now assembled.now.text runs.entry.keys.now runs.entry.limit runs.entry.free causes.items)
         (W.taker writer.old) (W.taker writer.new) result }
     ensures no_reader { is_read_fault result ≡ false }
 {
-    let program = program_of(alloc, source)?;
-    let (profile, causes) = profile_routine_runs(alloc, &program, runs, limit, free)?;
-    put_routines(format, name, &program, &profile, causes.as_slice(), writer)?;
+    let program = assembled.program();
+    let (profile, causes) = profile_routine_runs(alloc, program, runs.keys, runs.limit, runs.free)?;
+    put_routines(
+        style.format,
+        style.name,
+        program,
+        &profile,
+        causes.as_slice(),
+        writer,
+    )?;
     Ok(causes)
 }

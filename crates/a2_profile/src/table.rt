@@ -31,7 +31,7 @@ pub(crate) fn gap(width: usize, text: &[u8]) -> &[u8]
     &BLANKS[..width.saturating_sub(text.len()).min(14)]
 }
 
-// What stands between a label and its text.
+// Returns what is between a label and its text.
 pub(crate) fn before_text(text: &[u8]) -> &[u8]
     ensures { result.now ≡ table.before_text text.now }
 {
@@ -75,7 +75,7 @@ fn put_row<'a, W: Output>(
     )
 }
 
-// How many thousandths of all cycles these are.
+// Returns how many thousandths of all cycles these are.
 pub(crate) fn per_mille(cycles: u64, all: u64) -> u64
     requires { cycles ≤ all }
     ensures { result ≡ table.per_mille cycles all }
@@ -99,7 +99,7 @@ pub(crate) fn share_digits(thousandths: u64) -> Share
     share
 }
 
-// The digits of a number that is shown of a branch alone.
+// Returns the digits of a number that is shown only for a branch.
 fn branch_digits(is_branch: bool, number: u64) -> Digits
     ensures { result.items ≡ table.branch_digits is_branch number }
 {
@@ -140,7 +140,7 @@ fn put_count<W: Output>(
     )
 }
 
-// Whether a statement is a branch.
+// Returns whether a statement is a branch.
 pub(crate) fn is_branch(statement: &Statement) -> bool
     ensures { result ≡ table.is_branch statement.now }
 {
@@ -194,7 +194,7 @@ fn put_lines<A: Allocator, W: Output>(
     Ok(())
 }
 
-// Whether steps began at an address where no instruction of the source stands.
+// Returns whether steps began at an address where there is no instruction of the source.
 pub(crate) fn is_outside<A: Allocator, B: Allocator>(
     program: &Program<B>,
     profile: &Profile<A>,
@@ -205,7 +205,7 @@ pub(crate) fn is_outside<A: Allocator, B: Allocator>(
     profile.at(address).times != 0 && program.instr_at(address).is_none()
 }
 
-// The rows of the addresses where steps began and no instruction of the source stands.
+// The rows of the addresses where steps began and there is no instruction of the source.
 #[derive(Drop)]
 struct OutsideRows<'a, A: Allocator, B: Allocator> {
     program: &'a Program<B>,
@@ -230,7 +230,7 @@ impl<'a, A: Allocator, B: Allocator> ByAddress for OutsideRows<'a, A, B> {
     }
 }
 
-// The line of a statement.
+// Returns the line of a statement.
 fn line_of<'a>(texts: &[&'a [u8]], statement: &Statement) -> &'a [u8]
     ensures { result.now ≡ table.line_of (map (λ x. x.now) texts.now) statement.now }
 {
@@ -240,14 +240,14 @@ fn line_of<'a>(texts: &[&'a [u8]], statement: &Statement) -> &'a [u8]
     }
 }
 
-// Whether a statement is an instruction that was never done.
+// Returns whether a statement is an instruction that was never executed.
 pub(crate) fn is_never_done<A: Allocator>(profile: &Profile<A>, statement: &Statement) -> bool
     ensures { result ≡ table.is_never_done profile.now statement.now }
 {
     statement.instr.is_some() && profile.at(statement.addr).times == 0
 }
 
-// Writes the row of a statement, if it is an instruction that was never done.
+// Writes the row of a statement, if it is an instruction that was never executed.
 fn put_never<A: Allocator, W: Output>(
     profile: &Profile<A>,
     texts: &[&[u8]],
@@ -266,7 +266,7 @@ fn put_never<A: Allocator, W: Output>(
     }
 }
 
-// Writes the rows of the lines that were never done.
+// Writes the rows of the lines that were never executed.
 fn put_never_rows<A: Allocator, W: Output>(
     profile: &Profile<A>,
     texts: &[&[u8]],
@@ -315,14 +315,14 @@ fn put_heading<W: Output>(writer: &mut W) -> Result<(), WriteFault>
     )
 }
 
-/// Writes the table of a profile of `program`, whose source has these lines. For each line: how often its instruction was
-/// done, its cycles, their share of all cycles, rounded down; of a branch how often it was taken and how often not; the
-/// line's number and the line. Then a row for each other address where steps began, such as a service's; one for each line
-/// that was never done; and the sums. This project's profile.
+/// Writes the table of a profile of `program`, whose source has these lines. A line has: how often its instruction was executed,
+/// its cycles, and their share of all cycles, rounded down; for a branch how often it was taken and how often not; the line's
+/// number and the line. Then there is a row for each other address where steps began, such as that of a service; one for each line
+/// that was never executed; and the sums. This project's profile.
 ///
 /// # Errors
 ///
-/// `WriteFault` at the first write that failed, which is the last one made: a front of the table went out.
+/// `WriteFault` if a write failed: no further write follows, and a front of the table was written.
 pub fn write_profile<A: Allocator, B: Allocator, W: Output>(
     program: &Program<B>,
     texts: &[&[u8]],

@@ -1,4 +1,4 @@
-//! A walk through a run, which counts what is done in its routines.
+//! A walk through a run, which counts what is executed in its routines.
 
 ghost use Rattle.std.specs.Prelude.{◌≡◌, ◌-◌, ◌<◌, ◌≤◌, ℕ, true, false, [], ◌∷◌, length, replicate, IfOk, if◌then◌else◌};
 ghost use Rattle.std.specs.List.{All};
@@ -7,7 +7,7 @@ ghost use Rattle.a2_profile.specs.Totals.{itself, nothing, totals_at, own_steps_
 ghost use Rattle.a2_profile.specs.Walks as walks;
 ghost use Rattle.a2_profile.specs.Walks.{SeesAlike, IsLow};
 
-use a2_burst::{Look, Observer};
+use a2_burst::{Observer, StepView};
 use arrayvec::ArrayVec;
 use std::alloc::{AllocError, Allocator, Global};
 use std::marker::Model;
@@ -21,14 +21,14 @@ const ITSELF: u32 = 0x1_0000;
 /// JSR's operation code.
 const JSR: u8 = 0x20;
 
-/// The most steps of a walk: those of a run with the greatest limit.
+/// The greatest number of steps of a walk: that of a run with the greatest limit.
 const WALK_MAX_STEPS: u64 = 0xFFFF_FFFF;
 
-/// The most routines that are entered and not left, since the stack pointer is lower before each: at 256 for the program itself,
-/// and then at 255 to 0.
+/// The greatest number of routines that are entered and not left, because the stack pointer is lower before each: it is 256 for the
+/// program itself, and then 255 to 0.
 const MOST_FRAMES: usize = 257;
 
-/// What was done in a routine.
+/// What was executed in a routine.
 #[derive(Clone, Copy, Debug, PartialEq, Eq)]
 pub struct Totals {
     /// How often a JSR entered it.
@@ -61,7 +61,7 @@ pub(crate) struct Frame {
     s: u16,
 }
 
-// How often a routine is entered and not left, and the steps and cycles of the run when it was first.
+// How often a routine is entered and not left, and the steps and cycles of the run when it was first entered.
 #[derive(Clone, Copy)]
 pub(crate) struct Opening {
     depth: u64,
@@ -75,7 +75,7 @@ const CLOSED: Opening = Opening {
     cycles: 0,
 };
 
-/// No totals of each routine.
+/// No steps of any routine.
 pub(crate) fn no_totals<A: Allocator>(alloc: A) -> Result<Vec<Totals, A>, AllocError>
     ensures { IfOk result (λ totals. totals.items ≡ replicate 65537 nothing) }
 {
@@ -89,14 +89,14 @@ fn no_openings<A: Allocator>(alloc: A) -> Result<Vec<Opening, A>, AllocError>
     vec![in alloc; CLOSED; ROUTINES]
 }
 
-// Since when a routine is counted: since now, where it is entered first, and else as before.
+// Returns since when a routine is counted: since now if it is entered for the first time, and otherwise as before.
 fn begun(is_first: bool, now: u64, since: u64) -> u64
     ensures { result ≡ (if is_first then now else since) }
 {
     if is_first { now } else { since }
 }
 
-// What is counted of a routine where it is left last: what was spent since.
+// Returns what is counted of a routine when it is left for the last time: what was spent since it was entered.
 fn spent(is_last: bool, now: u64, since: u64) -> u64
     requires { since ≤ now }
     ensures { result ≡ (if is_last then now - since else 0) }
@@ -125,7 +125,7 @@ impl<A: Allocator> Model for Walk<A> {
 }
 
 impl<A: Allocator + Copy> Walk<A> {
-    // A walk of no steps, in which no routine is entered.
+    // Returns a walk of no steps, in which no routine is entered.
     fn empty(alloc: A) -> Result<Walk<A>, AllocError>
         ensures { IfOk result (λ walk. walk ≡ record {
           frames = [];
@@ -144,7 +144,7 @@ impl<A: Allocator + Copy> Walk<A> {
         })
     }
 
-    /// A walk of no steps, in the program itself.
+    /// Returns a walk of no steps, in the program itself.
     pub fn new(alloc: A) -> Result<Walk<A>, AllocError>
         ensures frames { IfOk result (λ walk. walk.frames ≡ walks.base ∷ []) }
         ensures nothing { IfOk result (λ walk. (r : ℕ) → r < 65537 → walks.seen_at walk r ≡ nothing) }
@@ -166,7 +166,7 @@ impl<A: Allocator> Walk<A> {
         let _ = &self.totals;
     }
 
-    // Whether it can count a step more, which it can at each step of a run.
+    // Returns whether it can count one more step, which is so at each step of a run.
     #[inline(always)]
     fn has_room(&self) -> bool
         ensures { result ≡ walks.has_room self.now }
@@ -203,7 +203,7 @@ impl<A: Allocator> Walk<A> {
         self.totals[usize::from(routine)].times += 1;
     }
 
-    // Enters a routine from where the stack pointer is this, which is below that of any other.
+    // Enters a routine at this stack pointer, which is lower than that of any other.
     fn open(&mut self, routine: u32, s: u16)
         requires routine { routine < 65537 }
         requires high { s ≤ 256 }
@@ -221,7 +221,7 @@ impl<A: Allocator> Walk<A> {
         };
     }
 
-    // Enters a routine by a JSR before which the stack pointer was this. It is below that of any other, unless none of a run.
+    // Enters a routine by a JSR before which the stack pointer was this. In a run it is lower than that of any other.
     #[inline(never)]
     fn enter(&mut self, routine: u16, s: u8)
         requires { (totals_at self.old.totals routine).times < self.old.steps }
@@ -236,7 +236,7 @@ impl<A: Allocator> Walk<A> {
 
     // Enters what a step enters, if it is a JSR.
     #[inline(always)]
-    fn enter_by(&mut self, look: Look)
+    fn enter_by(&mut self, look: StepView)
         requires { (totals_at self.old.totals look.next_pc).times < self.old.steps }
         ensures { self.new ≡ walks.with_call look self.old }
     {
@@ -273,7 +273,7 @@ impl<A: Allocator> Walk<A> {
         };
     }
 
-    // Whether a stack pointer is not below that before the innermost routine, if there is one.
+    // Returns whether a stack pointer is not below that before the innermost routine, if there is one.
     #[inline(always)]
     fn leaves(&self, s: u8) -> bool
         ensures value { result ≡ walks.leaves s self.now }
@@ -295,7 +295,7 @@ impl<A: Allocator> Walk<A> {
         }
     }
 
-    /// Leaves all; what was done in each routine.
+    /// Leaves all routines. Returns what was executed in each.
     pub fn finish(mut self) -> RoutineProfile<A>
         ensures seen { (r : ℕ) → r < 65537 → totals_at result r ≡ walks.seen_at self r }
         ensures steps { own_steps_in result ≡ self.steps }
@@ -330,7 +330,7 @@ impl<A: Allocator> Observer for Walk<A> {
     ghost seen = { walks.shown_to };
 
     #[inline(always)]
-    fn see(&mut self, look: Look, _ram: &[u8]) {
+    fn see(&mut self, look: StepView, _ram: &[u8]) {
         self.is_walk();
         keeps_small(look.pc, look.s, look.next_pc, look.next_s, look.cycles);
         if self.has_room() {
@@ -341,7 +341,7 @@ impl<A: Allocator> Observer for Walk<A> {
     }
 }
 
-/// What was done in each routine of a run, and in the program itself. Contracts see a list of 65,537 totals. This project's
+/// What was executed in each routine of a run, and in the program itself. Contracts see a list of 65,537 totals. This project's
 /// profile.
 #[derive(Drop)]
 pub struct RoutineProfile<A: Allocator = Global> {
@@ -363,17 +363,17 @@ impl<A: Allocator> Model for RoutineProfile<A> {
 }
 
 impl<A: Allocator> RoutineProfile<A> {
-    /// What was done in the routine that begins at `address`, $0000 to $FFFF.
+    /// Returns what was executed in the routine that begins at `address`, $0000 to $FFFF.
     pub fn at(&self, address: u16) -> Totals
         ensures value { result ≡ totals_at self.now address }
-        // A law of every profile: no routine has more cycles than the run, with those of what it calls.
+        // A law of every profile: no routine has more cycles than the run, including what it calls.
         ensures within { result.all_cycles ≤ own_cycles_in self.now }
         ensures own_within { result.cycles ≤ own_cycles_in self.now }
     {
         self.totals[usize::from(address)]
     }
 
-    /// What was done in the program itself.
+    /// Returns what was executed in the program itself.
     pub fn itself(&self) -> Totals
         ensures value { result ≡ totals_at self.now itself }
         ensures within { result.all_cycles ≤ own_cycles_in self.now }
@@ -382,14 +382,14 @@ impl<A: Allocator> RoutineProfile<A> {
         self.totals[ITSELF as usize]
     }
 
-    /// The own steps of all.
+    /// Returns the own steps of all routines.
     pub fn steps(&self) -> u64
         ensures { result ≡ own_steps_in self.now }
     {
         self.steps
     }
 
-    /// The own cycles of all.
+    /// Returns the own cycles of all routines.
     pub fn cycles(&self) -> u64
         ensures { result ≡ own_cycles_in self.now }
     {

@@ -10,7 +10,7 @@ use Rattle.a2_promise.specs.declared.expr.Atom.TheVariants.{A, Cycles, Steps}
 use Rattle.a2_promise.specs.Tokens.{Token, word, sign}
 use Rattle.a2_promise.specs.Written.{atom_name}
 use Rattle.a2_promise.specs.Grammar.{address_of, is_just}
-use Rattle.a2_promise.specs.Told.{Change, held, byte, bytes, may_change, change_names, is_other_name, change_fits, change_spelled, more_spelled, AreChanges}
+use Rattle.a2_promise.specs.PromisedTerms.{Change, held, byte, bytes, may_change, change_names, is_other_name, change_fits, change_spelled, more_spelled, AreChanges}
 use Rattle.a2_promise.proofs.Finder.{named, Opening, it, opening_words}
 use Rattle.a2_promise.proofs.Meanings.{atom_opens, just}
 use Rattle.a2_promise.proofs.Inner.{parts4}
@@ -105,8 +105,8 @@ more_same names (one ∷ more) [] h k e = let never : ⊥ = cc in absurd never
 more_same names (one ∷ more) (other ∷ others) h k e =
     let w = and_parts (change_fits names one) (list_all (change_fits names) more) h in
     let v = and_parts (change_fits names other) (list_all (change_fits names) others) k in
-    let behind : change_spelled one ++ more_spelled more ≡ change_spelled other ++ more_spelled others = cc in
-    let same = first_same names one other more others w.0 v.0 behind in
+    let following : change_spelled one ++ more_spelled more ≡ change_spelled other ++ more_spelled others = cc in
+    let same = first_same names one other more others w.0 v.0 following in
     ap (λ c. c ∷ more) same.first ∙ ap (λ cs. other ∷ cs) (more_same names more others w.1 v.1 same.rest)
 
 pub changes_same : (names : Names) (tokens : List Token) (one other : List Change) → AreChanges names tokens one

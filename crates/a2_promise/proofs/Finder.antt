@@ -118,19 +118,19 @@ module _ (given : Reading) (scope : Scope) where
   label_behind (word label ∷ more) = then_by (name_value scope.names label) (λ a. one_behind tightest more (λ e. there label a e))
   label_behind _ = None
 
-  abbrev pub text_behind : List Token → Read
-  text_behind [] = None
-  text_behind (sign opening ∷ more) =
+  abbrev pub text_after_marker : List Token → Read
+  text_after_marker [] = None
+  text_after_marker (sign opening ∷ more) =
       then_by (given scope 1 more) (λ e. laid_behind (λ quote characters. text_in e.0 quote characters)
       (behind_one (behind_one e.1)))
-  text_behind (token ∷ more) =
+  text_after_marker (token ∷ more) =
       then_by (address_of scope.names token) (λ a. laid_behind (λ quote characters. text token a quote characters)
       (behind_one more))
 
-  abbrev pub word_behind : List Token → Read
-  word_behind [] = None
-  word_behind (sign opening ∷ more) = one_up_to more word_in
-  word_behind (token ∷ more) = then_by (address_of scope.names token) (λ a. Some (word_of token a, more))
+  abbrev pub word_after_opcode : List Token → Read
+  word_after_opcode [] = None
+  word_after_opcode (sign opening ∷ more) = one_up_to more word_in
+  word_after_opcode (token ∷ more) = then_by (address_of scope.names token) (λ a. Some (word_of token a, more))
 
   abbrev pub number_behind : List Token → Read
   number_behind [] = None
@@ -155,7 +155,7 @@ module _ (given : Reading) (scope : Scope) where
   opened (it a) more = Some (atom a, more)
   opened opens_old more = one_behind tightest more before
   opened opens_at more = label_behind more
-  opened opens_text more = text_behind more
+  opened opens_text more = text_after_marker more
   opened opens_not more = one_behind 4 more negated
   opened opens_if more = choice_behind more
   opened opens_for more = count_behind 1 (behind_one more) for_all
@@ -165,7 +165,7 @@ module _ (given : Reading) (scope : Scope) where
   opened opens_abs more = one_behind tightest more magnitude
   opened opens_bit more = bit_behind more
   opened opens_signed more = one_behind tightest more signed
-  opened opens_word more = word_behind more
+  opened opens_word more = word_after_opcode more
   opened opens_group more = one_up_to more group
   opened opens_byte more = one_up_to more byte_in
   opened opens_minus more = one_behind tightest more minus

@@ -106,8 +106,8 @@ module _ (given : Reading) (n : ℕ) (found : Finds n given) where
       → size e < n → size f < n → IsClean scope → fits scope e ≡ true → fits scope f ≡ true
       → two_up_to given scope (((spelled e ++ comma ∷ spelled f) ++ closing ∷ []) ++ rest) make ≡ Some (make e f, rest)
   two_within e f scope make comma closing rest h k h' k' small small' clean fit fit' =
-      let behind = append_assoc (spelled e ++ comma ∷ spelled f) (closing ∷ []) rest ∙ append_assoc (spelled e) (comma ∷ spelled f) (closing ∷ rest) in
+      let following = append_assoc (spelled e ++ comma ∷ spelled f) (closing ∷ []) rest ∙ append_assoc (spelled e) (comma ∷ spelled f) (closing ∷ rest) in
       rw (
-        up_to e scope 1 _ comma (spelled f ++ closing ∷ rest) behind h k small clean fit (one_le_rank e),
+        up_to e scope 1 _ comma (spelled f ++ closing ∷ rest) following h k small clean fit (one_le_rank e),
         up_to f scope 1 _ closing rest refl h' k' small' clean fit' (one_le_rank f),
       )

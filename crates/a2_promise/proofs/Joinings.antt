@@ -18,9 +18,9 @@ use Rattle.a2_promise.specs.declared.parsing.Piece.{Piece}
 use Rattle.a2_promise.specs.declared.reader.Span.{Span}
 use Rattle.a2_promise.specs.Phrases.{Phrase}
 use Rattle.a2_promise.specs.Tokens.{word}
-use Rattle.a2_promise.specs.Written.{Written, Meant, joined, bit, provided, one_of, spelled, said, meant, infix_token, comparison, compared, both}
+use Rattle.a2_promise.specs.Written.{Written, PhraseWithLast, joined, bit, provided, one_of, spelled, said, meant, infix_token, comparison, compared, both}
 use Rattle.a2_promise.specs.Grammar.{fits, joins, kind, infix_kind, infix_rank, is_comparison, is_number, is_fact, may_be_number, may_be_fact, tightest, takes_else}
-use Rattle.a2_promise.specs.Reading.{State, Takes, Puts, Reads, ReadsKind, ReadsOne, ReadsJoined, EndsCompared, IsPiece, IsLast, IsMade, Stops, first, made, comparing, joining, parts_before, parts_behind}
+use Rattle.a2_promise.specs.Reading.{State, Takes, Puts, Reads, ReadsKind, ReadsOne, ReadsJoined, EndsCompared, IsPiece, IsLast, IsMade, Stops, first, made, comparing, joining, parts_before, parts_known_after}
 use Rattle.a2_promise.proofs.Goings.{also, took, put, last, ◌>>◌, as_made, stops_both, fits_at, reads_it, one_read, one_by_rank}
 use Rattle.a2_promise.proofs.Making.{none_made, made_both}
 use Rattle.a2_promise.proofs.Ranks.{takes_rank}
@@ -73,9 +73,9 @@ puts_both {put} {more} {a} p q = record {
 }
 
 -- the left part was read, the operator was read, parts were appended, and the right part was read
-joined_read : (join : Infix) {fore behind : List Part} {e : Written} {a m n o q b : State} → Reads e a m → Takes (infix_token join) m n → Puts fore n o
-    → (s : ReadsOne (suc (infix_rank join)) (λ f. joins join e f) o q) → Puts behind q b → infix_rank join < tightest
-    → ((phrases : List Phrase) → made behind (said s.e ∷ made fore (said e ∷ phrases)) ≡ said (joined join e s.e) ∷ phrases)
+joined_read : (join : Infix) {fore following : List Part} {e : Written} {a m n o q b : State} → Reads e a m → Takes (infix_token join) m n → Puts fore n o
+    → (s : ReadsOne (suc (infix_rank join)) (λ f. joins join e f) o q) → Puts following q b → infix_rank join < tightest
+    → ((phrases : List Phrase) → made following (said s.e ∷ made fore (said e ∷ phrases)) ≡ said (joined join e s.e) ∷ phrases)
     → Reads (joined join e s.e) a b
 unfolding spelled fits
 joined_read join {e = e} r t h s p below makes =
@@ -90,9 +90,9 @@ abbrev with_left : {limit : ℕ} {test other : Written → Bool} {a b : State} (
 with_left s is = record { e = s.e; reads = s.reads; rank = s.rank; is = is; stops = s.stops }
 
 abbrev pub JoinedBy : Infix → (Written → Bool) → List Part → List Part → Type 0
-JoinedBy join test fore behind =
+JoinedBy join test fore following =
     (piece : Piece) (e : Written) (a m n o q b : State) → Reads e a m → IsTrue (test e) → Takes (infix_token join) m n → Puts fore n o
-    → ReadsOne (suc (infix_rank join)) test o q → Puts behind q b → piece.kind ≡ infix_kind join → piece.last ≡ None → ReadsJoined join e piece a b
+    → ReadsOne (suc (infix_rank join)) test o q → Puts following q b → piece.kind ≡ infix_kind join → piece.last ≡ None → ReadsJoined join e piece a b
 
 plain_joined : {join : Infix} {e f : Written} {piece : Piece} {a b : State} → Reads (joined join e f) a b → piece.kind ≡ infix_kind join
     → piece.last ≡ None → (meant (joined join e f)).last ≡ None → ReadsJoined join e piece a b
@@ -118,7 +118,7 @@ iff_read piece e a m n o q b r t u h s p k none = plain_joined (joined_read Iff 
 abbrev pub IsLogic : Infix → Type 0
 IsLogic join = (join ≡ Or) ⊎ ((join ≡ And) ⊎ (join ≡ Iff))
 
-pub logic_read : (join : Infix) → IsLogic join → JoinedBy join is_fact (parts_before join) (parts_behind join)
+pub logic_read : (join : Infix) → IsLogic join → JoinedBy join is_fact (parts_before join) (parts_known_after join)
 logic_read join is = elim is [
   | inl e ↦ rw e or_read
   | inr more ↦ elim more [ inl e ↦ rw e and_read | inr e ↦ rw e iff_read ]
@@ -141,7 +141,7 @@ pub joins_both : (e f : Phrase) (phrases : List Phrase) → made joining (f ∷ 
 unfolding made
 joins_both e f phrases = refl
 
-compared_by : (relation : Relation) (m : Meant) (f : Phrase) (was : Option Phrase) → m.last ≡ was
+compared_by : (relation : Relation) (m : PhraseWithLast) (f : Phrase) (was : Option Phrase) → m.last ≡ was
     → elim was [ None ↦ compared relation m.phrase f | Some one ↦ both m.phrase (compared relation one f) ] ≡ (comparison relation m f).phrase
 compared_by relation m f was e = rw e refl
 
@@ -187,14 +187,14 @@ or_right true p q = q
 or_right false p q = also p q
 
 -- a comparison, given its left side and the phrase of the last parts before the right number
-compared_so : {relation : Relation} {piece : Piece} {e : Written} {span : Span} {a b : State} (parts behind : List Part) {f : Written}
-    → Reads (joined (Compare relation) e f) a b → IsMade span (said f) parts → b.parts ≡ parts ++ behind → piece.kind ≡ kinds.Fact
+compared_so : {relation : Relation} {piece : Piece} {e : Written} {span : Span} {a b : State} (parts following : List Part) {f : Written}
+    → Reads (joined (Compare relation) e f) a b → IsMade span (said f) parts → b.parts ≡ parts ++ following → piece.kind ≡ kinds.Fact
     → piece.last ≡ Some span → ReadsJoined (Compare relation) e piece a b
 unfolding meant
-compared_so {span = span} {b = b} parts behind {f} r m all k some = record {
+compared_so {span = span} {b = b} parts following {f} r m all k some = record {
   f = f;
   reads = r;
-  piece_is = record { kind = sym k; last = rw some (refl, (said f, refl, made_kept span (said f) parts behind b.parts all m)) };
+  piece_is = record { kind = sym k; last = rw some (refl, (said f, refl, made_kept span (said f) parts following b.parts all m)) };
 }
 
 comparison_read : (relation : Relation) {left piece : Piece} {e : Written} {span : Span} {a m n o b : State} → Reads e a m → IsPiece left e m
@@ -215,18 +215,18 @@ chain_read : (relation : Relation) {left piece : Piece} {e : Written} {chained s
     → (chained.ended ≤ length n.parts → Puts (slice_range n.parts chained.begun chained.ended) n o) → ReadsLast span o q
     → Puts (comparing relation ++ joining) q b → piece.kind ≡ kinds.Fact → piece.last ≡ Some span → ReadsJoined (Compare relation) e piece a b
 unfolding meant
-chain_read relation {e = e} {chained} {m = m} {n} {q = q} r l some u h t behind k some' =
+chain_read relation {e = e} {chained} {m = m} {n} {q = q} r l some u h t following k some' =
     let f = t.one.e in
     let was : IsLast m.parts (Some chained) e = rw some at l.last in
     let one = was.1.0 in
     let again = made_kept chained one m.parts [] n.parts (u.parts ∙ sym (append-nil m.parts)) was.1.2 in
     compared_so q.parts (comparing relation ++ joining)
-    (joined_read (Compare relation) r u (h again.0) (with_left t.one (or_left (is_number e) was.0 t.one.is)) behind (omega arith)
+    (joined_read (Compare relation) r u (h again.0) (with_left t.one (or_left (is_number e) was.0 t.one.is)) following (omega arith)
     (λ phrases. ap (λ stack. made (comparing relation ++ joining) (said f ∷ stack)) (again.1 (said e ∷ phrases))
     ∙ made_both (comparing relation) joining (said f ∷ one ∷ said e ∷ phrases)
     ∙ ap (made joining) (compares relation one (said f) (said e ∷ phrases)) ∙ joins_both (said e) (compared relation one (said f)) phrases
     ∙ ap (λ phrase. phrase ∷ phrases) (compared_by relation (meant e) (said f) (Some one) was.1.1)))
-    t.is_made behind.parts k some'
+    t.is_made following.parts k some'
 
 -- the same, for a number or a comparison as the left side
 pub compared_read : (relation : Relation) {left piece : Piece} {e : Written} {begun : ℕ} {a m n o q b : State} → Reads e a m → IsPiece left e m

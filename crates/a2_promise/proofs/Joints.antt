@@ -9,7 +9,7 @@ use Rattle.a2_promise.specs.declared.words.Infix.{Infix}
 use Rattle.a2_promise.specs.Tokens.{Token, word, sign}
 use Rattle.a2_promise.specs.Written.{Written, decimal, literal, byte, byte_in, word_of, word_in, text, text_in, atom, counted, group, minus, magnitude, signed, before, there, bit, least, greatest, negated, joined, provided, one_of, for_all, sum_of, atom_name, infix_token, laid_text, spelled}
 use Rattle.a2_promise.specs.Grammar.{infix_rank, rank, tightest, takes_from, takes_else, is_one, is_number, is_fact, is_just, may_count, joins, counts, inside, Scope, is_text, number_of, number_among, fits}
-use Rattle.a2_promise.specs.OneReading.{WordsAreOneExpression}
+use Rattle.a2_promise.specs.OneReading.{WordsSpellOneExpression}
 use Rattle.a2_promise.proofs.Finder.{Reading, then_by, joint_of, is_else, operand, worded, plain, by_case, if_tight, joints, behind_one, count_behind, reading}
 use Rattle.a2_promise.proofs.Stopping.{Ends, is_looser, is_past, past_mono, past_min_left, past_min_right, none_next, joint_is, no_else}
 use Rattle.a2_promise.proofs.Ranks.{rank_le, one_le_rank, one_le_takes, takes_le}
@@ -53,10 +53,10 @@ module _ (given : Reading) (n : ℕ) (found : Finds n given) where
       ≡ Some (make name k e f, rest)
   counts_found r make name k e f scope rest small small' clean counting tight fit fit' l past ends =
       let a = parts3 (may_count name) (length scope.around == k) (nat_lt k 4) counting in
-      let behind = append_assoc (spelled e) (sign (codes ":") ∷ spelled f) rest in
+      let following = append_assoc (spelled e) (sign (codes ":") ∷ spelled f) rest in
       let cleaner = and_from (may_count name) (list_all may_count scope.around) a.0 clean in
       rw (
-        up_to given n found e scope 6 _ (sign (codes ":")) (spelled f ++ rest) behind refl refl small clean fit (leb-true 6 (rank e) tight),
+        up_to given n found e scope 6 _ (sign (codes ":")) (spelled f ++ rest) following refl refl small clean fit (leb-true 6 (rank e) tight),
         found f (inside name scope) r _ rest refl small' cleaner fit' l past ends,
         eqb-true (length scope.around) k a.1,
       )
@@ -80,8 +80,8 @@ module _ (given : Reading) (n : ℕ) (found : Finds n given) where
   operand_found (text_in e quote characters) scope rest one small clean fit ends =
       let a = parts3 (is_number e) (fits scope e) (is_text quote characters) fit in
       let laid = laid_text quote characters in
-      let behind = append_assoc (spelled e ++ sign (codes "]") ∷ []) laid rest ∙ append_assoc (spelled e) (sign (codes "]") ∷ []) (laid ++ rest) in
-      rw (up_to given n found e scope 1 _ (sign (codes "]")) (laid ++ rest) behind refl refl (omega (arith, small)) clean a.1 (one_le_rank e))
+      let following = append_assoc (spelled e ++ sign (codes "]") ∷ []) laid rest ∙ append_assoc (spelled e) (sign (codes "]") ∷ []) (laid ++ rest) in
+      rw (up_to given n found e scope 1 _ (sign (codes "]")) (laid ++ rest) following refl refl (omega (arith, small)) clean a.1 (one_le_rank e))
   operand_found (atom it) scope rest one small clean fit ends =
       ap (λ o. worded given scope (atom_name it) rest o) (atom_opens it)
   operand_found (counted name k) scope rest one small clean fit ends =
@@ -110,9 +110,9 @@ module _ (given : Reading) (n : ℕ) (found : Finds n given) where
       let a = parts6 (is_one e) (is_number e) (is_one f) (is_number f) (fits scope e) (fits scope f) fit in
       let at_e = eqb-true (rank e) tightest a.0 in
       let at_f = eqb-true (rank f) tightest a.2 in
-      let behind = append_assoc (spelled e) (word (codes "of") ∷ spelled f) rest in
+      let following = append_assoc (spelled e) (word (codes "of") ∷ spelled f) rest in
       rw (
-        up_to given n found e scope tightest _ (word (codes "of")) (spelled f ++ rest) behind refl refl (omega (arith, small)) clean a.4 (omega (arith, at_e)),
+        up_to given n found e scope tightest _ (word (codes "of")) (spelled f ++ rest) following refl refl (omega (arith, small)) clean a.4 (omega (arith, at_e)),
         found f scope tightest _ rest refl (omega (arith, small)) clean a.5 (omega (arith, at_f)) (past_mono (takes_from f) tightest rest (takes_le f) ends.joints)
             (record { joints = ends.joints; choice = ends.choice }),
       )
@@ -132,9 +132,9 @@ module _ (given : Reading) (n : ℕ) (found : Finds n given) where
   operand_found (provided e f) scope rest one small clean fit ends =
       let a = parts4 (is_fact e) (is_fact f) (fits scope e) (fits scope f) fit in
       let none : is_else rest ≡ false = ends.choice in
-      let behind = append_assoc (spelled e) (word (codes "then") ∷ spelled f) rest in
+      let following = append_assoc (spelled e) (word (codes "then") ∷ spelled f) rest in
       rw (
-        up_to given n found e scope 1 _ (word (codes "then")) (spelled f ++ rest) behind refl refl (omega (arith, small)) clean a.2 (one_le_rank e),
+        up_to given n found e scope 1 _ (word (codes "then")) (spelled f ++ rest) following refl refl (omega (arith, small)) clean a.2 (one_le_rank e),
         last_found f scope rest (omega (arith, small)) clean a.3 ends.joints (and_right (takes_else f) (is_else rest) none),
         none,
       )
@@ -142,9 +142,9 @@ module _ (given : Reading) (n : ℕ) (found : Finds n given) where
       let a = parts6 (is_fact e) ((is_number f && is_number g) || (is_fact f && is_fact g)) (not (takes_else f)) (fits scope e) (fits scope f)
       (fits scope g) fit in
       let other = word (codes "else") ∷ spelled g in
-      let behind = append_assoc (spelled e) (word (codes "then") ∷ (spelled f ++ other)) rest in
+      let following = append_assoc (spelled e) (word (codes "then") ∷ (spelled f ++ other)) rest in
       rw (
-        up_to given n found e scope 1 _ (word (codes "then")) ((spelled f ++ other) ++ rest) behind refl refl (omega (arith, small)) clean a.3 (one_le_rank e),
+        up_to given n found e scope 1 _ (word (codes "then")) ((spelled f ++ other) ++ rest) following refl refl (omega (arith, small)) clean a.3 (one_le_rank e),
         found f scope 1 _ (other ++ rest) (append_assoc (spelled f) other rest) (omega (arith, small)) clean a.4 (one_le_rank f) refl
             (record { joints = refl; choice = and_left (takes_else f) true (not-true (takes_else f) a.2) }),
         last_found g scope rest (omega (arith, small)) clean a.5 ends.joints ends.choice,
@@ -230,7 +230,7 @@ finds (suc n) e scope r tokens rest is small clean fit l past ends =
 ends_whole : (e : Written) → Ends e []
 ends_whole e = record { joints = refl; choice = and_right (takes_else e) false refl }
 
-pub one_expression : WordsAreOneExpression
+pub one_expression : WordsSpellOneExpression
 one_expression scope one other clean fit fit' same =
     let n = suc (size one + size other) in
     let small : size one < n = omega arith in

@@ -14,7 +14,7 @@ use Rattle.a2_promise.specs.declared.reader.Span.{Span}
 use Rattle.a2_promise.specs.declared.parsing.Place.{Place}
 use Rattle.a2_promise.specs.declared.parsing.Place.TheVariants.{Fixed, Made}
 use Rattle.a2_promise.specs.Phrases.{Phrase, pair, of, number}
-use Rattle.a2_promise.specs.Written.{both, is_laid, are_laid, are_laid_behind}
+use Rattle.a2_promise.specs.Written.{both, is_laid, are_laid, are_laid_from}
 use Rattle.a2_promise.specs.Grammar.{is_text}
 use Rattle.a2_promise.specs.Reading.{State, Puts, PutsOf, IsMade, IsPlaced, IsTop, pushed, made, joining}
 use Rattle.a2_promise.proofs.Making.{none_made, made_both}
@@ -91,13 +91,13 @@ laid_made span n code p h e f k =
     rw (p.2, p.1 n) (put_then (pushed n (p.0 ∷ [])) (is (pair operation.Plus p.0 (number (pos n)))) h (rw (e, f) at k) (λ phrases. refl))
 
 behind_more : (quote : ℕ) (place : ℕ → Phrase) (said : Phrase) (k : ℕ) (text : List ℕ) (c : ℕ)
-    → are_laid_behind quote place said k (text ++ c ∷ []) ≡ both (are_laid_behind quote place said k text) (is_laid quote (place (k + length text)) c)
+    → are_laid_from quote place said k (text ++ c ∷ []) ≡ both (are_laid_from quote place said k text) (is_laid quote (place (k + length text)) c)
 behind_more quote place said k [] c =
     let n : k ≡ k + 0 = omega arith in ap (λ n. both said (is_laid quote (place n) c)) n
 behind_more quote place said k (d ∷ text) c =
     let n : suc k + length text ≡ k + suc (length text) = omega arith in
     behind_more quote place (both said (is_laid quote (place k) d)) (suc k) text c
-    ∙ ap (λ n. both (are_laid_behind quote place (both said (is_laid quote (place k) d)) (suc k) text) (is_laid quote (place n) c)) n
+    ∙ ap (λ n. both (are_laid_from quote place (both said (is_laid quote (place k) d)) (suc k) text) (is_laid quote (place n) c)) n
 
 laid_more : (quote : ℕ) (place : ℕ → Phrase) (d : ℕ) (text : List ℕ) (c : ℕ)
     → are_laid quote place (d ∷ (text ++ c ∷ [])) ≡ both (are_laid quote place (d ∷ text)) (is_laid quote (place (suc (length text))) c)

@@ -6,7 +6,7 @@ use Rattle.a2_promise.specs.declared.expr.Function.{Function}
 use Rattle.a2_promise.specs.declared.expr.Function.TheVariants as function
 use Rattle.a2_promise.specs.declared.expr.Operation.TheVariants as operation
 use Rattle.a2_promise.specs.Values.{Moment, byte_at, word_at, byte_value, word_value, made_of, operated_on, is_zero, chosen, count_of, each_below, sum_below, at_count, word_in, value_of}
-use Rattle.a2_promise.specs.Looks.{Known, AgreeAt, KnowsByte, KnowsWord, KnowsMade, OfBoth, OfChosen, IsBelow, Knows, ValuesDependOnLooks}
+use Rattle.a2_promise.specs.ReadsOfValues.{Known, AgreeAt, KnowsByte, KnowsWord, KnowsMade, OfBoth, OfChosen, IsBelow, Knows, ValuesDependOnlyOnReads}
 
 same_byte : (known : Known) (m n : Moment) (at : Option ℕ) → AgreeAt known m n → KnowsByte known at → byte_at m.bytes at ≡ byte_at n.bytes at
 same_byte known m n None h knows = refl
@@ -55,27 +55,27 @@ same_count : (count : Option ℕ) (f g : ℕ → Option ℤ) (all : ℕ → (ℕ
 same_count None f g all by same = refl
 same_count (Some n) f g all by same = by n same
 
-pub values : ValuesDependOnLooks
-values (Number n) before behind m n' u v names h l knows = refl
-values (Held atom) before behind m n u v names h l knows = ap (λ z. Some z) (l.atoms atom knows)
-values (Bound name) before behind m n u v names h l knows = refl
-values (Old' p e) before behind m n u v names h l knows = values e before before m m u u names h h knows
-values (At' a p e) before behind m n u v names h l knows = refl
-values (Of' f p e) before behind m n u v names h l knows =
-    same_made behind n v f (value_of e m n names) l knows.1
-    ∙ ap (λ x. made_of f v.bytes x) (values e before behind m n u v names h l knows.0)
-values (Pair' op p x q y) before behind m n u v names h l knows =
-    ap₂ (λ x y. operated_on op x y) (values x before behind m n u v names h l knows.0) (values y before behind m n u v names h l knows.1)
-values (Choice' p c q x r y) before behind m n u v names h l knows =
-    same_chosen (value_of c m n names) (Knows x before behind m n names) (Knows y before behind m n names)
+pub values : ValuesDependOnlyOnReads
+values (Number n) before following m n' u v names h l knows = refl
+values (Held atom) before following m n u v names h l knows = ap (λ z. Some z) (l.atoms atom knows)
+values (Bound name) before following m n u v names h l knows = refl
+values (Old' p e) before following m n u v names h l knows = values e before before m m u u names h h knows
+values (At' a p e) before following m n u v names h l knows = refl
+values (Of' f p e) before following m n u v names h l knows =
+    same_made following n v f (value_of e m n names) l knows.1
+    ∙ ap (λ x. made_of f v.bytes x) (values e before following m n u v names h l knows.0)
+values (Pair' op p x q y) before following m n u v names h l knows =
+    ap₂ (λ x y. operated_on op x y) (values x before following m n u v names h l knows.0) (values y before following m n u v names h l knows.1)
+values (Choice' p c q x r y) before following m n u v names h l knows =
+    same_chosen (value_of c m n names) (Knows x before following m n names) (Knows y before following m n names)
     (value_of x m n names) (value_of y m n names) (value_of x u v names) (value_of y u v names) knows.1
-    (λ one. values x before behind m n u v names h l one) (λ other. values y before behind m n u v names h l other)
-    ∙ ap (λ by. chosen by (value_of x u v names) (value_of y u v names)) (values c before behind m n u v names h l knows.0)
-values (Each' name p c q e) before behind m n u v names h l knows =
+    (λ one. values x before following m n u v names h l one) (λ other. values y before following m n u v names h l other)
+    ∙ ap (λ by. chosen by (value_of x u v names) (value_of y u v names)) (values c before following m n u v names h l knows.0)
+values (Each' name p c q e) before following m n u v names h l knows =
     same_count (count_of (value_of c m n names)) (λ k. value_of e m n (slice_set names name (pos k))) (λ k. value_of e u v (slice_set names name (pos k)))
-    each_below (λ n. same_each n _ _) (λ k below. values e before behind m n u v (slice_set names name (pos k)) h l (knows.1 k below))
-    ∙ ap (λ by. at_count (count_of by) (λ k. value_of e u v (slice_set names name (pos k))) each_below) (values c before behind m n u v names h l knows.0)
-values (Sum' name p c q e) before behind m n u v names h l knows =
+    each_below (λ n. same_each n _ _) (λ k below. values e before following m n u v (slice_set names name (pos k)) h l (knows.1 k below))
+    ∙ ap (λ by. at_count (count_of by) (λ k. value_of e u v (slice_set names name (pos k))) each_below) (values c before following m n u v names h l knows.0)
+values (Sum' name p c q e) before following m n u v names h l knows =
     same_count (count_of (value_of c m n names)) (λ k. value_of e m n (slice_set names name (pos k))) (λ k. value_of e u v (slice_set names name (pos k)))
-    sum_below (λ n. same_sum n _ _) (λ k below. values e before behind m n u v (slice_set names name (pos k)) h l (knows.1 k below))
-    ∙ ap (λ by. at_count (count_of by) (λ k. value_of e u v (slice_set names name (pos k))) sum_below) (values c before behind m n u v names h l knows.0)
+    sum_below (λ n. same_sum n _ _) (λ k below. values e before following m n u v (slice_set names name (pos k)) h l (knows.1 k below))
+    ∙ ap (λ by. at_count (count_of by) (λ k. value_of e u v (slice_set names name (pos k))) sum_below) (values c before following m n u v names h l knows.0)

@@ -20,7 +20,7 @@ use Rattle.a2_promise.specs.declared.words.TheConstants.{INFIXES, HELD, OPENINGS
 use Rattle.a2_promise.specs.Tokens.{Token, word, sign}
 use Rattle.a2_promise.specs.Written.{atom_name, infix_token}
 use Rattle.a2_promise.specs.Grammar.{infix_rank, is_name_among, openings, may_count, tightest}
-use Rattle.a2_promise.specs.Told.{change_names}
+use Rattle.a2_promise.specs.PromisedTerms.{change_names}
 use Rattle.a2_promise.specs.Reading.{is_listed, opening_token, token_of}
 
 pub unequal : (b : Bool) → (b ≡ true → ⊥) → b ≡ false

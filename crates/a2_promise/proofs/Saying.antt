@@ -3,7 +3,7 @@ use Rattle.std.specs.Prelude.{◌≡◌, ℕ, Bool, false, not, ◌&&◌, List, 
 use Rattle.std.specs.List.{Contains}
 use Rattle.std.proofs.Common.{ap, sym, ◌∙◌}
 use Rattle.std.proofs.lemmas.List.{append-nil}
-use Rattle.a2_text.specs.Words.{behind_blanks}
+use Rattle.a2_text.specs.Words.{after_blanks}
 use Rattle.a2_asm.specs.Values.{Names}
 use Rattle.a2_promise.specs.declared.parts.Part.{Part}
 use Rattle.a2_promise.specs.declared.promises.Block.{Block}
@@ -14,7 +14,7 @@ use Rattle.a2_promise.specs.declared.promises.Verb.{Verb}
 use Rattle.a2_promise.specs.declared.reading.Class.{Class}
 use Rattle.a2_promise.specs.declared.texts.Text.{Text}
 use Rattle.a2_promise.specs.Tokens.{Token, word, token_from, tokens}
-use Rattle.a2_promise.specs.Told.{Line, IsLine, IsFact, IsSpelt, wanted_in, promised_in, changes_in, printed_in, taken_in, is_promising}
+use Rattle.a2_promise.specs.PromisedTerms.{Line, IsLine, IsFact, IsSpelt, wanted_in, promised_in, changes_in, printed_in, taken_in, is_promising}
 use Rattle.a2_promise.specs.Reading.{AddsFact, AddsText, AddsLine, LetAllChange, said_by, characters_of, token_of, verb_name, with_rest}
 use Rattle.a2_promise.proofs.Names.{token_by}
 use Rattle.a2_promise.proofs.States.{first_is, rest_is}
@@ -32,10 +32,10 @@ verb_found class text it listed =
 
 -- a verb was read, and this follows it
 pub record Begins (verb line rest : List ℕ) : Type 0 where
-  pub found : token_from (behind_blanks line) ≡ Some (word verb, rest)
+  pub found : token_from (after_blanks line) ≡ Some (word verb, rest)
   pub left : tokens line ≡ word verb ∷ tokens rest
 
-pub begins : {verb : List ℕ} (line rest : List ℕ) {found : Option Token} → with_rest found rest ≡ token_from (behind_blanks line)
+pub begins : {verb : List ℕ} (line rest : List ℕ) {found : Option Token} → with_rest found rest ≡ token_from (after_blanks line)
     → found ≡ Some (word verb) → Begins verb line rest
 begins {verb} line rest {found} e f = record {
   found = sym e ∙ ap (λ found. with_rest found rest) f;
@@ -48,7 +48,7 @@ pub fact_of : {verb line rest : List ℕ} {names : Names} {is_within : Bool} {ar
     → IsFact names verb (tokens line) f.e
 fact_of {verb} b w a f = (b.left ∙ ap (λ left. word verb ∷ left) f.is_spelled, rw (w, a) at f.fit)
 
-pub spelt_of : {verb line rest : List ℕ} {texts others : List Text} → Begins verb line rest → (f : AddsText (behind_blanks rest) texts others)
+pub spelt_of : {verb line rest : List ℕ} {texts others : List Text} → Begins verb line rest → (f : AddsText (after_blanks rest) texts others)
     → IsSpelt verb line f.characters
 spelt_of {rest = rest} b f = record { rest = rest; inner = f.inner; begins = b.found; is_quoted = f.is_quoted; spells = f.spells }
 

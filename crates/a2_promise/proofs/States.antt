@@ -8,33 +8,33 @@ use Rattle.std.proofs.lemmas.Slice.Eq.{bytes_eq-Decides}
 use Rattle.std.proofs.lemmas.Bool.Decides.{Decides-like, same_from_decides}
 use Rattle.a2_text.specs.Bytes.{is_digit}
 use Rattle.a2_text.specs.Signs.{sign as code}
-use Rattle.a2_text.specs.Words.{behind_blanks}
+use Rattle.a2_text.specs.Words.{after_blanks}
 use Rattle.a2_syntax.specs.Numbers.{is_quote, is_quotable}
-use Rattle.a2_promise.specs.Tokens.{Token, sign, quoted, is_letter, is_double, front, behind, sign_from, quoted_from, token_from, tokens}
+use Rattle.a2_promise.specs.Tokens.{Token, sign, quoted, is_letter, is_double, front, following, sign_from, quoted_from, token_from, tokens}
 use Rattle.a2_promise.specs.Grammar.{Scope, inside, is_text, number_among}
 use Rattle.a2_promise.specs.Reading.{first, with_rest}
 use Rattle.a2_promise.proofs.Tokens.{tokens_are, tokens_with, choice}
 
 -- The next token
 
-first_with : (token : Option Token) (behind : List ℕ) → token ≡ first (tokens_with (with_rest token behind))
-first_with None behind = refl
-first_with (Some token) behind = refl
+first_with : (token : Option Token) (following : List ℕ) → token ≡ first (tokens_with (with_rest token following))
+first_with None following = refl
+first_with (Some token) following = refl
 
-pub first_is : (token : Option Token) (behind line : List ℕ) → with_rest token behind ≡ token_from (behind_blanks line) → token ≡ first (tokens line)
-first_is token behind line e =
-    first_with token behind ∙ ap (λ found. first (tokens_with found)) e ∙ ap first (sym (tokens_are line))
+pub first_is : (token : Option Token) (following line : List ℕ) → with_rest token following ≡ token_from (after_blanks line) → token ≡ first (tokens line)
+first_is token following line e =
+    first_with token following ∙ ap (λ found. first (tokens_with found)) e ∙ ap first (sym (tokens_are line))
 
-rest_with : (found : Option Token) (behind : List ℕ) (token : Token) → first (tokens_with (with_rest found behind)) ≡ Some token
-    → tokens_with (with_rest found behind) ≡ token ∷ tokens behind
-rest_with None behind token e = cc
-rest_with (Some found) behind token e = cc
+rest_with : (found : Option Token) (following : List ℕ) (token : Token) → first (tokens_with (with_rest found following)) ≡ Some token
+    → tokens_with (with_rest found following) ≡ token ∷ tokens following
+rest_with None following token e = cc
+rest_with (Some found) following token e = cc
 
-pub rest_is : (found : Option Token) (behind line : List ℕ) (token : Token) → with_rest found behind ≡ token_from (behind_blanks line)
-    → first (tokens line) ≡ Some token → tokens line ≡ token ∷ tokens behind
-rest_is found behind line token e f =
-    let same : tokens line ≡ tokens_with (with_rest found behind) = tokens_are line ∙ ap tokens_with (sym e) in
-    same ∙ rest_with found behind token (ap first (sym same) ∙ f)
+pub rest_is : (found : Option Token) (following line : List ℕ) (token : Token) → with_rest found following ≡ token_from (after_blanks line)
+    → first (tokens line) ≡ Some token → tokens line ≡ token ∷ tokens following
+rest_is found following line token e f =
+    let same : tokens line ≡ tokens_with (with_rest found following) = tokens_are line ∙ ap tokens_with (sym e) in
+    same ∙ rest_with found following token (ap first (sym same) ∙ f)
 
 -- A text in quotes
 
@@ -95,7 +95,7 @@ good_found quote text (c ∷ rest) =
     choice (c == code "$") P _ _ (λ b e. absurd (let no : ⊥ = cc in no)) (λ b.
     choice (is_digit c) P _ _ (λ b e. absurd (let no : ⊥ = cc in no)) (λ b.
     choice (is_letter c) P _ _ (λ b e. absurd (let no : ⊥ = cc in no)) (λ b.
-    choice (is_quote c) P _ _ (λ b. quoted_good quote c text (front (is_quotable c) rest) (behind (is_quotable c) rest) rest b (front_all (is_quotable c) rest))
+    choice (is_quote c) P _ _ (λ b. quoted_good quote c text (front (is_quotable c) rest) (following (is_quotable c) rest) rest b (front_all (is_quotable c) rest))
     (λ b. no_sign quote c text rest))))
 
 good_first : (quote : ℕ) (text : List ℕ) (found : Option (Token × List ℕ)) → IsGoodFound quote text found
@@ -105,7 +105,7 @@ good_first quote text (Some found) g e = g (let same : found.0 ≡ quoted quote 
 
 pub quoted_text : (quote : ℕ) (text line : List ℕ) → first (tokens line) ≡ Some (quoted quote text) → IsTrue (is_text quote text)
 quoted_text quote text line e =
-    good_first quote text (token_from (behind_blanks line)) (good_found quote text (behind_blanks line)) (ap first (sym (tokens_are line)) ∙ e)
+    good_first quote text (token_from (after_blanks line)) (good_found quote text (after_blanks line)) (ap first (sym (tokens_are line)) ∙ e)
 
 -- Bound names
 

@@ -11,7 +11,7 @@ use Rattle.a2_promise.specs.declared.reading.Class.{Class}
 use Rattle.a2_promise.specs.declared.reading.Class.TheVariants as classes
 use Rattle.a2_promise.specs.Tokens.{Token, word, sign}
 use Rattle.a2_promise.specs.Grammar.{Scope, address_of, is_name_among}
-use Rattle.a2_promise.specs.Told.{Change, byte, bytes, change_names, is_other_name, change_fits, change_spelled, is_a, is_x, is_y, ranges_in}
+use Rattle.a2_promise.specs.PromisedTerms.{Change, byte, bytes, change_names, is_other_name, change_fits, change_spelled, is_a, is_x, is_y, ranges_in}
 use Rattle.a2_promise.specs.Reading.{State, Takes, LetsChange, IsUpTo, AddsChange, AddsChanges, ranges_of, first, token_of}
 use Rattle.a2_promise.proofs.Names.{word_class}
 use Rattle.a2_promise.proofs.Goings.{also}

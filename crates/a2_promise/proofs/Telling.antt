@@ -8,15 +8,15 @@ use Rattle.std.proofs.lemmas.Option.{same_Some, some_pair_parts}
 use Rattle.std.proofs.lemmas.List.{append_cancel_right}
 use Rattle.std.proofs.lemmas.Slice.Eq.{bytes_eq-Decides}
 use Rattle.a2_text.specs.Signs.{sign as code}
-use Rattle.a2_text.specs.Words.{behind_blanks}
+use Rattle.a2_text.specs.Words.{after_blanks}
 use Rattle.a2_asm.specs.Values.{Names}
 use Rattle.a2_bus.specs.KeyText.{BeginsWith, SpellsKeys}
 use Rattle.a2_bus.proofs.KeyReading.{begins_only, empty_begins}
 use Rattle.a2_promise.specs.Tokens.{Token, word, token_from, tokens, tokens_up_to}
 use Rattle.a2_promise.specs.Written.{Written}
 use Rattle.a2_promise.specs.Grammar.{Scope, is_fact, fits, is_name_among}
-use Rattle.a2_promise.specs.Told.{Line, requires, ensures, changes, prints, takes, underway, IsSpelt, IsFact, IsLine, AreLines, AreChanges, terms_of, texts_before}
-use Rattle.a2_promise.specs.OneReading.{LinesTellOnePromise}
+use Rattle.a2_promise.specs.PromisedTerms.{Line, requires, ensures, changes, prints, takes, underway, IsSpelt, IsFact, IsLine, AreLines, AreChanges, terms_of, texts_before}
+use Rattle.a2_promise.specs.OneReading.{LinesGiveOnePromise}
 use Rattle.a2_promise.proofs.Finder.{named, behind_one}
 use Rattle.a2_promise.proofs.Joints.{one_expression}
 use Rattle.a2_promise.proofs.Changing.{changes_same}
@@ -57,7 +57,7 @@ tail_of : List ℕ → List ℕ → List Token
 tail_of [] rest = []
 tail_of (c ∷ cs) rest = tokens_up_to (length cs) rest
 
-first_token : (verb text rest : List ℕ) → token_from (behind_blanks text) ≡ Some (word verb, rest)
+first_token : (verb text rest : List ℕ) → token_from (after_blanks text) ≡ Some (word verb, rest)
     → tokens text ≡ word verb ∷ tail_of text rest
 unfolding tokens tail_of
 first_token verb [] rest h = let never : ⊥ = cc in absurd never
@@ -97,7 +97,7 @@ spelt_same : (verb text one other : List ℕ) → IsSpelt verb text one → IsSp
 spelt_same verb text one other h k =
     let rest : h.rest ≡ k.rest = (some_pair_parts (word verb) (word verb) h.rest k.rest (sym h.begins ∙ k.begins)).1 in
     let quoted : code "\"" ∷ (h.inner ++ code "\"" ∷ []) ≡ code "\"" ∷ (k.inner ++ code "\"" ∷ []) =
-    sym h.is_quoted ∙ ap behind_blanks rest ∙ k.is_quoted in
+    sym h.is_quoted ∙ ap after_blanks rest ∙ k.is_quoted in
     let closed : h.inner ++ code "\"" ∷ [] ≡ k.inner ++ code "\"" ∷ [] = cc in
     let inner = append_cancel_right h.inner k.inner (code "\"" ∷ []) closed in
     keys_same k.inner one other (subst (λ (t : List ℕ). SpellsKeys t one) inner h.spells) k.spells
@@ -132,7 +132,7 @@ lines_same names (text ∷ texts) (one ∷ more) (other ∷ others) h k =
     ap (λ l. l ∷ more) (line_same names text one other h.0 k.0) ∙ ap (λ ls. other ∷ ls)
     (lines_same names texts more others h.1 k.1)
 
-pub one_promise : LinesTellOnePromise
+pub one_promise : LinesGiveOnePromise
 one_promise lines names above label one other h k =
     let told = lines_same names (texts_before above lines) h.told k.told h.are_lines k.are_lines in
     let address = same_Some one.address other.address (sym h.address ∙ k.address) in

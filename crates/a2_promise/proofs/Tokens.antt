@@ -4,7 +4,7 @@ use Rattle.std.specs.List.{prefix_len}
 use Rattle.std.proofs.Common.{ap, sym, ◌∙◌, get_or, arith, length-drop}
 use Rattle.a2_text.specs.Bytes.{is_blank, is_digit, is_hex_digit}
 use Rattle.a2_text.specs.Signs.{sign as code}
-use Rattle.a2_text.specs.Words.{behind_blanks}
+use Rattle.a2_text.specs.Words.{after_blanks}
 use Rattle.a2_syntax.specs.Names.{is_name_byte}
 use Rattle.a2_syntax.specs.Numbers.{is_quote, is_quotable}
 use Rattle.std.proofs.lemmas.Bool.{false≢true}
@@ -13,10 +13,10 @@ use Rattle.a2_promise.specs.declared.reading.Class.{Class}
 use Rattle.a2_promise.specs.declared.reading.Class.TheVariants as class_of
 use Rattle.a2_promise.specs.Reading.{token_of, with_rest, IsWritten}
 use Rattle.a2_promise.proofs.Names.{unequal}
-use Rattle.a2_promise.specs.Tokens.{Token, word, decimal, sign, is_letter, is_double, front, behind, sign_from, quoted_from, token_from, tokens_up_to, tokens}
+use Rattle.a2_promise.specs.Tokens.{Token, word, decimal, sign, is_letter, is_double, front, following, sign_from, quoted_from, token_from, tokens_up_to, tokens}
 
 -- the rest after a prefix is not longer than the text
-no_longer : (p : ℕ → Bool) (text : List ℕ) → length (behind p text) ≤ length text
+no_longer : (p : ℕ → Bool) (text : List ℕ) → length (following p text) ≤ length text
 no_longer p text = omega (arith, length-drop (prefix_len p text) text)
 
 -- a property of a choice, from the properties of its branches
@@ -50,10 +50,10 @@ token_shorter (c ∷ rest) =
     (either_way (is_digit c) P _ _ (omega (arith, no_longer is_digit rest))
     (either_way (is_letter c) P _ _ (omega (arith, no_longer is_name_byte rest))
     (either_way (is_quote c) P _ _
-    (omega (arith, quoted_shorter c (front (is_quotable c) rest) (behind (is_quotable c) rest) rest (no_longer (is_quotable c) rest)))
+    (omega (arith, quoted_shorter c (front (is_quotable c) rest) (following (is_quotable c) rest) rest (no_longer (is_quotable c) rest)))
     (omega (arith, sign_shorter c rest)))))
 
-shorter_behind : (text : List ℕ) → length (behind_blanks text) ≤ length text
+shorter_behind : (text : List ℕ) → length (after_blanks text) ≤ length text
 shorter_behind text = omega (arith, length-drop (prefix_len is_blank text) text)
 
 abbrev up_to : ℕ → Option (Token × List ℕ) → List Token
@@ -73,7 +73,7 @@ enough zero (suc m) (c ∷ text) h l = absurd (omega (arith, h))
 enough (suc n) zero [] h l = refl
 enough (suc n) zero (c ∷ text) h l = absurd (omega (arith, l))
 enough (suc n) (suc m) text h l =
-    same_first n m (behind_blanks text) (token_from (behind_blanks text)) (token_shorter (behind_blanks text))
+    same_first n m (after_blanks text) (token_from (after_blanks text)) (token_shorter (after_blanks text))
     (λ more s. enough n m more (omega (arith, s, shorter_behind text)) (omega (arith, s, shorter_behind text)))
 
 -- the first token, and those after it
@@ -87,13 +87,13 @@ unfolding tokens
 to_tokens n text None s l = refl
 to_tokens n text (Some found) s l = ap (λ more. found.0 ∷ more) (enough n (length found.1) found.1 (omega (arith, s)) (omega arith))
 
-tokens_of : (text : List ℕ) (n : ℕ) → length text ≤ n → tokens_up_to n text ≡ tokens_with (token_from (behind_blanks text))
+tokens_of : (text : List ℕ) (n : ℕ) → length text ≤ n → tokens_up_to n text ≡ tokens_with (token_from (after_blanks text))
 tokens_of [] zero l = refl
 tokens_of (c ∷ text) zero l = absurd (omega (arith, l))
 tokens_of text (suc n) l =
-    to_tokens n (behind_blanks text) (token_from (behind_blanks text)) (token_shorter (behind_blanks text)) (omega (arith, l, shorter_behind text))
+    to_tokens n (after_blanks text) (token_from (after_blanks text)) (token_shorter (after_blanks text)) (omega (arith, l, shorter_behind text))
 
-pub tokens_are : (text : List ℕ) → tokens text ≡ tokens_with (token_from (behind_blanks text))
+pub tokens_are : (text : List ℕ) → tokens text ≡ tokens_with (token_from (after_blanks text))
 unfolding tokens
 tokens_are text = tokens_of text (length text) (omega arith)
 

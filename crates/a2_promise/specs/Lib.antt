@@ -1,10 +1,10 @@
 pub mod Values
-pub mod Looks
-pub mod Said
+pub mod ReadsOfValues
+pub mod MarkedLines
 pub mod Phrases
 pub mod Tokens
 pub mod Written
 pub mod Grammar
-pub mod Told
+pub mod PromisedTerms
 pub mod OneReading
 pub mod Reading

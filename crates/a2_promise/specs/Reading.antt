@@ -37,11 +37,11 @@ use Rattle.a2_promise.specs.declared.expr.Function.{Function}
 use Rattle.a2_promise.specs.declared.expr.Operation.TheVariants as operation
 use Rattle.a2_promise.specs.declared.words.Opening.{Opening}
 use Rattle.a2_promise.specs.declared.words.Opening.TheVariants as opening
-use Rattle.a2_promise.specs.Tokens.{Token, word, decimal, place, sign, quoted, is_letter, front, behind, quoted_from, tokens}
+use Rattle.a2_promise.specs.Tokens.{Token, word, decimal, place, sign, quoted, is_letter, front, following, quoted_from, tokens}
 use Rattle.a2_promise.specs.Phrases.{Phrase, phrase_of, number, held, bound, old, at, of, pair, choice, each, sum}
 use Rattle.a2_promise.specs.Written.{Written, atom_name, infix_token, spelled, meant, said, enclosed, bracketed, joined}
 use Rattle.a2_promise.specs.Grammar.{Scope, fits, inside, infix_rank, is_comparison, is_number, is_fact, may_be_number, may_be_fact, address_of, counts, kind, rank as rank_of, takes_else, takes_from, tightest}
-use Rattle.a2_promise.specs.Told.{Change, Line, IsLine, wanted_in, promised_in, changes_in, printed_in, taken_in, is_promising, change_fits, change_spelled, more_spelled, AreChanges, is_a, is_x, is_y, ranges_in}
+use Rattle.a2_promise.specs.PromisedTerms.{Change, Line, IsLine, wanted_in, promised_in, changes_in, printed_in, taken_in, is_promising, change_fits, change_spelled, more_spelled, AreChanges, is_a, is_x, is_y, ranges_in}
 
 -- the token with a class and a text; none at the end
 abbrev pub token_of : Class → List ℕ → Option Token
@@ -55,8 +55,8 @@ token_of class.Sign text = Some (sign text)
 
 -- a token together with the text after it
 abbrev pub with_rest : Option Token → List ℕ → Option (Token × List ℕ)
-with_rest None behind = None
-with_rest (Some token) behind = Some (token, behind)
+with_rest None following = None
+with_rest (Some token) following = Some (token, following)
 
 -- the token with this spelling: a word if it begins with a letter, otherwise a sign
 abbrev pub spelling : List ℕ → Token
@@ -77,7 +77,7 @@ is_named _ text other = false
 
 -- the text from a quote to the next one, and what follows it; a quote that is not closed is a sign
 abbrev pub up_to : ℕ → List ℕ → Token × List ℕ
-up_to quote text = quoted_from quote (front (is_quotable quote) text) (behind (is_quotable quote) text) text
+up_to quote text = quoted_from quote (front (is_quotable quote) text) (following (is_quotable quote) text) text
 
 -- the word or sign that opens an expression
 abbrev pub making_token : Making → Token
@@ -328,10 +328,10 @@ abbrev pub parts_before : Infix → List Part
 parts_before joint.Or = part.Number (pos 1) ∷ []
 parts_before _ = []
 
-abbrev pub parts_behind : Infix → List Part
-parts_behind joint.Or = part.Choice ∷ []
-parts_behind joint.And = joining
-parts_behind _ = part.Pair operation.Equal ∷ []
+abbrev pub parts_known_after : Infix → List Part
+parts_known_after joint.Or = part.Choice ∷ []
+parts_known_after joint.And = joining
+parts_known_after _ = part.Pair operation.Equal ∷ []
 
 abbrev pub parts_of_address : Function → ℕ → List Part
 parts_of_address f a = part.Number (pos a) ∷ part.Of f ∷ []

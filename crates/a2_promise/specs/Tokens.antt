@@ -3,7 +3,7 @@ use Rattle.std.specs.Prelude.{ℕ, zero, suc, Bool, ◌&&◌, ◌||◌, ◌==◌
 use Rattle.std.specs.List.{prefix_len}
 use Rattle.a2_text.specs.Bytes.{is_between, is_digit, is_hex_digit, capital}
 use Rattle.a2_text.specs.Signs.{sign as code}
-use Rattle.a2_text.specs.Words.{behind_blanks}
+use Rattle.a2_text.specs.Words.{after_blanks}
 use Rattle.a2_syntax.specs.Names.{is_name_byte}
 use Rattle.a2_syntax.specs.Numbers.{is_quote, is_quotable}
 
@@ -28,8 +28,8 @@ is_double c d =
 abbrev pub front : (ℕ → Bool) → List ℕ → List ℕ
 front test text = take (prefix_len test text) text
 
-abbrev pub behind : (ℕ → Bool) → List ℕ → List ℕ
-behind test text = drop (prefix_len test text) text
+abbrev pub following : (ℕ → Bool) → List ℕ → List ℕ
+following test text = drop (prefix_len test text) text
 
 -- a sign whose first byte is already read
 abbrev pub sign_from : ℕ → List ℕ → Token × List ℕ
@@ -46,16 +46,16 @@ quoted_from quote text (c ∷ more) rest =
 abbrev pub token_from : List ℕ → Option (Token × List ℕ)
 token_from [] = None
 token_from (c ∷ rest) = Some (
-    if c == code "$" then (place (front is_hex_digit rest), behind is_hex_digit rest)
-    else if is_digit c then (decimal (c ∷ front is_digit rest), behind is_digit rest)
-    else if is_letter c then (word (c ∷ front is_name_byte rest), behind is_name_byte rest)
-    else if is_quote c then quoted_from c (front (is_quotable c) rest) (behind (is_quotable c) rest) rest
+    if c == code "$" then (place (front is_hex_digit rest), following is_hex_digit rest)
+    else if is_digit c then (decimal (c ∷ front is_digit rest), following is_digit rest)
+    else if is_letter c then (word (c ∷ front is_name_byte rest), following is_name_byte rest)
+    else if is_quote c then quoted_from c (front (is_quotable c) rest) (following (is_quotable c) rest) rest
     else sign_from c rest)
 
 -- the first tokens of a text, at most this many
 abbrev pub tokens_up_to : ℕ → List ℕ → List Token
 tokens_up_to zero text = []
-tokens_up_to (suc n) text = elim (token_from (behind_blanks text)) [ None ↦ [] | Some found ↦ found.0 ∷ tokens_up_to n found.1 ]
+tokens_up_to (suc n) text = elim (token_from (after_blanks text)) [ None ↦ [] | Some found ↦ found.0 ∷ tokens_up_to n found.1 ]
 
 -- all tokens of a text; there are no more tokens than bytes
 unfoldable pub tokens : List ℕ → List Token

@@ -12,7 +12,7 @@ use Rattle.a2_promise.specs.declared.expr.Operation.{Operation}
 use Rattle.a2_promise.specs.declared.expr.Operation.TheVariants as operation
 use Rattle.a2_promise.specs.declared.expr.Expr.{Expr}
 use Rattle.a2_promise.specs.declared.expr.Expr.TheVariants.{Number, Held, Bound, Old', At', Of', Pair', Choice', Each', Sum'}
-use Rattle.a2_promise.specs.declared.valuing.Sight.{Sight}
+use Rattle.a2_promise.specs.declared.valuing.StateView.{StateView}
 use Rattle.a2_promise.specs.declared.valuing.Visit.{Visit}
 
 -- a state: the registers, the bytes of RAM from address 0 on, and the cycles and steps since the entry
@@ -22,7 +22,7 @@ pub record Moment : Type 0 where
   pub cycles : ℕ
   pub steps : ℕ
 
-abbrev pub moment_of : {A : Type 0} → Sight A → Moment
+abbrev pub moment_of : {A : Type 0} → StateView A → Moment
 moment_of sight = record {
   registers = registers_of sight.regs;
   bytes = sight.space.now.bytes;

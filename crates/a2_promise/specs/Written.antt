@@ -144,20 +144,20 @@ compared AtLeast e f = pair operation.AtMost f e
 
 -- what an expression says; for a comparison also its last number, with which another comparison may continue, as in 3
 -- < A < 9
-pub record Meant : Type 0 where
+pub record PhraseWithLast : Type 0 where
   pub phrase : Phrase
   pub last : Option Phrase
 
-abbrev pub plain : Phrase → Meant
+abbrev pub plain : Phrase → PhraseWithLast
 plain phrase = record { phrase = phrase; last = None }
 
-abbrev pub comparison : Relation → Meant → Phrase → Meant
+abbrev pub comparison : Relation → PhraseWithLast → Phrase → PhraseWithLast
 comparison relation e f = record {
   phrase = elim e.last [ None ↦ compared relation e.phrase f | Some last ↦ both e.phrase (compared relation last f) ];
   last = Some f;
 }
 
-abbrev pub joint : Infix → Meant → Phrase → Meant
+abbrev pub joint : Infix → PhraseWithLast → Phrase → PhraseWithLast
 joint Iff e f = plain (pair operation.Equal e.phrase f)
 joint Or e f = plain (choice e.phrase (number (pos 1)) f)
 joint And e f = plain (both e.phrase f)
@@ -169,16 +169,16 @@ abbrev pub is_laid : ℕ → Phrase → ℕ → Phrase
 is_laid quote place character = pair operation.Equal (of function.Byte place) (number (pos (code_in quote character)))
 
 -- the bytes from a place on are those of a text: given what was said of this many bytes, adds the others
-abbrev pub are_laid_behind : ℕ → (ℕ → Phrase) → Phrase → ℕ → List ℕ → Phrase
-are_laid_behind quote place said k [] = said
-are_laid_behind quote place said k (c ∷ characters) =
-    are_laid_behind quote place (both said (is_laid quote (place k) c)) (suc k) characters
+abbrev pub are_laid_from : ℕ → (ℕ → Phrase) → Phrase → ℕ → List ℕ → Phrase
+are_laid_from quote place said k [] = said
+are_laid_from quote place said k (c ∷ characters) =
+    are_laid_from quote place (both said (is_laid quote (place k) c)) (suc k) characters
 
 abbrev pub are_laid : ℕ → (ℕ → Phrase) → List ℕ → Phrase
 are_laid quote place [] = number (pos 1)
-are_laid quote place (c ∷ characters) = are_laid_behind quote place (is_laid quote (place 0) c) 1 characters
+are_laid quote place (c ∷ characters) = are_laid_from quote place (is_laid quote (place 0) c) 1 characters
 
-unfoldable pub meant : Written → Meant
+unfoldable pub meant : Written → PhraseWithLast
 meant (decimal token n) = plain (number (pos n))
 meant (literal token n) = plain (number (pos n))
 meant (byte token a) = plain (of function.Byte (number (pos a)))

@@ -45,41 +45,44 @@ impl Why {
     /// Returns the message.
     pub fn text(self) -> &'static str {
         match self {
-            Why::FactForNumber => "a number is wanted here, and this says that something holds",
+            Why::FactForNumber =>
+                "expected a number such as A + 1, found a condition, which is true or false",
             Why::NumberForFact =>
-                "something that holds or not is wanted here, as A = 3, and this is a number",
-            Why::TooDeep => "this is too deep within other things: take it apart",
+                "expected a condition such as A = 3, found a number; compare it with another number",
+            Why::TooDeep => "this expression is nested too deeply; split it into several lines",
             Why::NoNumber =>
-                "a number, $ and up to four digits, or a name of the source is wanted here",
+                "expected a number, `$` with one to four hexadecimal digits, or a name that the source defines",
             Why::NoAddress =>
-                "this is no name of the source, no register (A X Y S), no flag (C Z N V D I) and no address",
+                "expected a register (A X Y S), a flag (C Z N V D I), an address such as $10 or a name that the source defines",
             Why::NoText =>
-                "a text in quotes is wanted here, as in text $0400 = \"HI\", which ASC \"HI\" lays",
+                "expected a text in quotes with at least one character, as in text $0400 = \"HI\"",
             Why::NoLabel =>
-                "behind at stands a label within the routine that has lines invariant, decreases or note itself",
-            Why::AtOutside => "at stands only in lines invariant, decreases and note",
-            Why::GroupNotClosed => "a ) is wanted here",
-            Why::AddressNotClosed => "a ] is wanted here, as in [#$2000 + X]",
-            Why::PairNotOpened => "a ( is wanted here, as in min(A, X)",
-            Why::PairWithoutComma => "a comma is wanted here, as in min(A, X)",
-            Why::PairNotClosed => "a ) is wanted here, as in min(A, X)",
-            Why::BitWithoutOf => "of is wanted here, as in bit 3 of A",
-            Why::IfWithoutThen => "then is wanted here, as in if C then A = 1 else A = 0",
-            Why::ForWithoutAll => "all is wanted here, as in for all i < 8: [#$2000 + i] = 0",
+                "expected a label of this routine after `at`, as in at LOOP X; the label needs an invariant, decreases or note line before it",
+            Why::AtOutside => "`at` is allowed only in invariant, decreases and note lines",
+            Why::GroupNotClosed => "expected `)`",
+            Why::AddressNotClosed => "expected `]`, as in [#$2000 + X]",
+            Why::PairNotOpened => "expected `(`, as in min(A, X)",
+            Why::PairWithoutComma => "expected a comma, as in min(A, X)",
+            Why::PairNotClosed => "expected `)`, as in min(A, X)",
+            Why::BitWithoutOf => "expected `of`, as in bit 3 of A",
+            Why::IfWithoutThen => "expected `then`, as in if C then A = 1 else A = 0",
+            Why::ForWithoutAll => "expected `all`, as in for all i < 8: [#$2000 + i] = 0",
             Why::NothingCounted =>
-                "here stands what is counted, as in for all i < 8: [#$2000 + i] = 0",
-            Why::TooManyNames => "at most four names are counted within one another",
-            Why::NothingSaid => "this says nothing",
+                "expected a counter, its limit and `:`, as in for all i < 8: [#$2000 + i] = 0; a register or flag cannot be the counter",
+            Why::TooManyNames => "at most four `for all` and `sum` can be nested",
+            Why::NothingSaid => "expected an expression",
             Why::MoreBehind =>
-                "this can't stand here: and, or, iff, a comparison or the line's end may",
+                "unexpected text; remove it, or write an operator or a comma before it",
             Why::NoVerb =>
-                "a line of a promise begins with requires, ensures, changes, prints, takes, invariant, decreases or note",
+                "expected requires, ensures, changes, prints, takes, invariant, decreases or note after `;:`",
             Why::StackChanges =>
-                "S is as it should be where a routine returns: it is not among what changes",
-            Why::RangeDownwards => "the last address is below the first",
+                "S cannot be listed in `changes`; a routine must pull as many bytes as it pushes",
+            Why::RangeDownwards =>
+                "the last address of the range is below the first; write the lower one first",
             Why::NoSpelling =>
-                "a text in quotes is wanted here and nothing behind it, as in prints \"YES\\r\": \\r is a return, and \\\\ a \\",
-            Why::TooManyCharacters => "these are more than 4,096 characters",
+                "expected a text in quotes and nothing after it, as in prints \"YES\\r\"; write \\r for RETURN and \\\\ for \\",
+            Why::TooManyCharacters =>
+                "these texts have more than 4,096 characters together; shorten them",
         }
     }
 }

@@ -3,8 +3,8 @@
 //! CALLING.md shows how to use this crate.
 #![tactic(auto)]
 
-ghost use Rattle.a2_promise.specs.Looks.{ValuesDependOnLooks};
-ghost use Rattle.a2_promise.specs.OneReading.{LinesTellOnePromise, WordsAreOneExpression};
+ghost use Rattle.a2_promise.specs.ReadsOfValues.{ValuesDependOnlyOnReads};
+ghost use Rattle.a2_promise.specs.OneReading.{LinesGiveOnePromise, WordsSpellOneExpression};
 
 mod expr;
 mod fault;
@@ -21,21 +21,21 @@ pub use expr::{Atom, Expr, Function, Operation};
 pub use fault::Refusal;
 pub use promises::{Changes, Clause, Found, Promise, Range, Within, promise_in, promises_of};
 pub use texts::{Text, Texts};
-pub use valuing::{Bounds, Sight, Visit, value, value_in};
+pub use valuing::{Bounds, StateView, Visit, value, value_in};
 pub use words::{Infix, Relation};
 
 /// A theorem; the function does nothing. The value of an expression depends only on the bytes, registers and flags
 /// that it reads.
-pub fn values_depend_on_looks()
-    ensures { ValuesDependOnLooks }
+pub fn values_depend_only_on_reads()
+    ensures { ValuesDependOnlyOnReads }
 {}
 
 /// A theorem; the function does nothing. No two expressions have the same words and signs.
-pub fn words_are_one_expression()
-    ensures { WordsAreOneExpression }
+pub fn words_spell_one_expression()
+    ensures { WordsSpellOneExpression }
 {}
 
 /// A theorem; the function does nothing. The lines of a source give a routine at most one promise.
-pub fn lines_tell_one_promise()
-    ensures { LinesTellOnePromise }
+pub fn lines_give_one_promise()
+    ensures { LinesGiveOnePromise }
 {}

@@ -12,7 +12,7 @@ ghost use Rattle.a2_promise.specs.declared.expr.Operation.TheVariants as operati
 ghost use Rattle.a2_promise.specs.Reading.{EndsCompared, IsEither, IsMade, IsPiece, IsPlaced, IsTop, Puts, PutsOf, pushed, Reads};
 ghost use Rattle.a2_promise.specs.Reading.{ReadsAddress, ReadsCounted, ReadsJoined, ReadsKind, ReadsOne, ReadsPiece, ReadsPlace};
 ghost use Rattle.a2_promise.specs.Reading.{ReadsThen, ReadsToken, ReadsTwo, State, Takes, comparing as parts_comparing, first, made};
-ghost use Rattle.a2_promise.specs.Reading.{making_token, number_parts, opening_token, parts_before, parts_behind, parts_chaining};
+ghost use Rattle.a2_promise.specs.Reading.{making_token, number_parts, opening_token, parts_before, parts_known_after, parts_chaining};
 ghost use Rattle.a2_promise.specs.Reading.{parts_of_address, state_of};
 ghost use Rattle.a2_promise.specs.Tokens.{Token, sign, tokens, word};
 ghost use Rattle.a2_promise.specs.Written.{Written, are_laid as laid_of, infix_token};
@@ -23,7 +23,7 @@ use crate::parts::Part;
 use crate::reader::{Reader, Span};
 use crate::reading::Class;
 use crate::words::{
-    BEHIND_AND, BEHIND_COMPARISON, Infix, Kind, LOOSEST, Making, Opening, Relation, infix_of,
+    ABOVE_AND, ABOVE_COMPARISON, Infix, Kind, LOOSEST, Making, Opening, Relation, infix_of,
     kind_of, may_name, opening_of, rank_of,
 };
 
@@ -132,7 +132,7 @@ fn comparing(relation: Relation) -> &'static [Part]
 // Returns the parts that join two facts: those before the second fact and those after it.
 fn joining(join: Infix) -> (&'static [Part], &'static [Part])
     ensures before { result.0.now ≡ parts_before join }
-    ensures behind { result.1.now ≡ parts_behind join }
+    ensures following { result.1.now ≡ parts_known_after join }
 {
     match join {
         Infix::Or => (&[Part::Number(1)], &[Part::Choice]),
@@ -163,7 +163,7 @@ fn number_here(reader: &mut Reader) -> Result<Kind, ReadFault>
 
 // Prepares for the second number of a comparison. If the left side is itself a comparison, its last number is
 // repeated; otherwise the left side must be a number.
-fn before_compared(reader: &mut Reader, left: Piece) -> Result<(), ReadFault>
+fn begin_second_number(reader: &mut Reader, left: Piece) -> Result<(), ReadFault>
     ensures first { left.last ≡ None → OnOk result (IsTrue (may_be_number left.kind) × (state_of reader.new ≡ state_of reader.old)) }
     ensures more { (last : Span) → left.last ≡ Some last → last.ended ≤ length reader.old.parts.items
         → OnOk result (Puts (slice_range reader.old.parts.items last.begun last.ended) (state_of reader.old) (state_of reader.new)) }
@@ -185,7 +185,7 @@ fn chaining(last: Option<Span>) -> &'static [Part]
 }
 
 // Ends a comparison whose second number has the parts from `begun` on, and returns it.
-fn behind_compared(
+fn end_comparison(
     reader: &mut Reader,
     left: Piece,
     relation: Relation,
@@ -254,10 +254,10 @@ fn joined(reader: &mut Reader, left: Piece, join: Infix, depth: u8) -> Result<Pi
     let rank = rank_of(join).saturating_add(1);
     match join {
         Infix::Compare(relation) => {
-            before_compared(reader, left)?;
+            begin_second_number(reader, left)?;
             let begun = reader.count();
-            number_in(reader, BEHIND_COMPARISON, depth.saturating_sub(3))?;
-            behind_compared(reader, left, relation, begun)
+            number_in(reader, ABOVE_COMPARISON, depth.saturating_sub(3))?;
+            end_comparison(reader, left, relation, begun)
         }
         Infix::Apply(operation) => {
             left.number()?;
@@ -267,10 +267,10 @@ fn joined(reader: &mut Reader, left: Piece, join: Infix, depth: u8) -> Result<Pi
         }
         Infix::Or | Infix::And | Infix::Iff => {
             left.fact()?;
-            let (before, behind) = joining(join);
+            let (before, following) = joining(join);
             reader.puts(before)?;
             fact_in(reader, rank, less)?;
-            reader.puts(behind)?;
+            reader.puts(following)?;
             Ok(Piece::at(left.bytes_left, Kind::Fact))
         }
     }
@@ -341,7 +341,7 @@ fn opened(
         Opening::Make(making) => make(reader, making, less),
         Opening::Text => text_at(reader, less),
         Opening::Not => {
-            fact_in(reader, BEHIND_AND, less)?;
+            fact_in(reader, ABOVE_AND, less)?;
             reader.ends(&NEGATED, Kind::Fact)
         }
         Opening::If => conditional(reader, less),
@@ -566,7 +566,7 @@ fn counted(reader: &mut Reader, depth: u8) -> Result<u8, ReadFault>
     }
     reader.take();
     reader.expect(b"<", Why::NothingCounted)?;
-    number_in(reader, BEHIND_COMPARISON, less)?;
+    number_in(reader, ABOVE_COMPARISON, less)?;
     reader.expect(b":", Why::NothingCounted)?;
     reader.bind(name.text)
 }
@@ -591,7 +591,7 @@ fn sum_of(reader: &mut Reader, depth: u8) -> Result<Kind, ReadFault>
         → IfOk result (λ kind. ReadsKind kind before (state_of reader.new)) }
 {
     let name = counted(reader, depth)?;
-    number_in(reader, BEHIND_COMPARISON, depth)?;
+    number_in(reader, ABOVE_COMPARISON, depth)?;
     reader.unbind(name);
     reader.makes(Part::Sum(name), Kind::Number)
 }

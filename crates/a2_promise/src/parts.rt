@@ -26,36 +26,36 @@ pub(crate) enum Part {
 
 /// Why a list of parts is not an expression.
 #[derive(Clone, Copy)]
-pub(crate) enum Unmade {
+pub(crate) enum PartsError {
     TooFew,
     Memory,
 }
 
 // Pushes an expression.
-fn push(made: &mut Vec<Expr>, expr: Expr) -> Result<(), Unmade>
+fn push(made: &mut Vec<Expr>, expr: Expr) -> Result<(), PartsError>
     ensures { OnOk result (stack_of made.new.items ≡ phrase_of expr ∷ stack_of made.old.items) }
 {
     match made.push(expr) {
         Ok(()) => Ok(()),
-        Err(_) => Err(Unmade::Memory),
+        Err(_) => Err(PartsError::Memory),
     }
 }
 
 // Pops the topmost expression into a box.
-fn pop(alloc: Global, made: &mut Vec<Expr>) -> Result<Box<Expr>, Unmade>
+fn pop(alloc: Global, made: &mut Vec<Expr>) -> Result<Box<Expr>, PartsError>
     ensures { IfOk result (λ box. stack_of made.old.items ≡ phrase_of box.value ∷ stack_of made.new.items) }
 {
     let Some(expr) = made.pop() else {
-        return Err(Unmade::TooFew);
+        return Err(PartsError::TooFew);
     };
     match Box::new(alloc, expr) {
         Ok(top) => Ok(top),
-        Err(_) => Err(Unmade::Memory),
+        Err(_) => Err(PartsError::Memory),
     }
 }
 
 // Replaces the topmost expression by what a part makes of it.
-fn push_of_one(alloc: Global, made: &mut Vec<Expr>, it: Part) -> Result<(), Unmade>
+fn push_of_one(alloc: Global, made: &mut Vec<Expr>, it: Part) -> Result<(), PartsError>
     ensures { OnOk result (stack_of made.new.items ≡ made_by it (stack_of made.old.items)) }
 {
     let expr = pop(alloc, made)?;
@@ -63,12 +63,12 @@ fn push_of_one(alloc: Global, made: &mut Vec<Expr>, it: Part) -> Result<(), Unma
         Part::Old => push(made, Expr::Old(expr)),
         Part::At(address) => push(made, Expr::At(address, expr)),
         Part::Of(function) => push(made, Expr::Of(function, expr)),
-        _ => Err(Unmade::TooFew),
+        _ => Err(PartsError::TooFew),
     }
 }
 
 // Replaces the two or three topmost expressions by what a part makes of them.
-fn push_of_more(alloc: Global, made: &mut Vec<Expr>, it: Part) -> Result<(), Unmade>
+fn push_of_more(alloc: Global, made: &mut Vec<Expr>, it: Part) -> Result<(), PartsError>
     ensures { OnOk result (stack_of made.new.items ≡ made_by it (stack_of made.old.items)) }
 {
     let second = pop(alloc, made)?;
@@ -82,12 +82,12 @@ fn push_of_more(alloc: Global, made: &mut Vec<Expr>, it: Part) -> Result<(), Unm
             let by = pop(alloc, made)?;
             push(made, Expr::Choice(by, first, second))
         }
-        _ => Err(Unmade::TooFew),
+        _ => Err(PartsError::TooFew),
     }
 }
 
 // Applies a part to the topmost expressions.
-fn push_part(alloc: Global, made: &mut Vec<Expr>, it: Part) -> Result<(), Unmade>
+fn push_part(alloc: Global, made: &mut Vec<Expr>, it: Part) -> Result<(), PartsError>
     ensures { OnOk result (stack_of made.new.items ≡ made_by it (stack_of made.old.items)) }
 {
     match it {
@@ -100,7 +100,7 @@ fn push_part(alloc: Global, made: &mut Vec<Expr>, it: Part) -> Result<(), Unmade
 }
 
 /// Returns the expression that has these parts.
-pub(crate) fn expr_of(alloc: Global, parts: &[Part]) -> Result<Expr, Unmade>
+pub(crate) fn expr_of(alloc: Global, parts: &[Part]) -> Result<Expr, PartsError>
     ensures { IfOk result (λ expr. (more : List Phrase) × (made_of parts.now [] ≡ phrase_of expr ∷ more)) }
 {
     let mut made = Vec::new(alloc);
@@ -109,6 +109,6 @@ pub(crate) fn expr_of(alloc: Global, parts: &[Part]) -> Result<Expr, Unmade>
     }
     match made.pop() {
         Some(expr) => Ok(expr),
-        None => Err(Unmade::TooFew),
+        None => Err(PartsError::TooFew),
     }
 }

@@ -3,10 +3,10 @@
 ghost use Rattle.std.specs.Prelude.{◌≡◌, ℕ, List, [], ◌∷◌, ◌++◌, IsTrue, IfOk, IfSome, Some, ◌&&◌, MatchOption, OnOk};
 ghost use Rattle.a2_promise.specs.Reading.{AddsChange, AddsChanges, AddsFact, AddsLine, AddsWhole, around_of, says_within, token_of, verb_name};
 ghost use Rattle.a2_promise.specs.Reading.{IsChanges, IsUpTo, LetsChange, is_listed, state_of};
-ghost use Rattle.a2_promise.specs.Told as change;
-ghost use Rattle.a2_promise.specs.Told.{may_change};
+ghost use Rattle.a2_promise.specs.PromisedTerms as change;
+ghost use Rattle.a2_promise.specs.PromisedTerms.{may_change};
 ghost use Rattle.a2_promise.specs.Tokens.{tokens, word};
-ghost use Rattle.a2_promise.specs.Said.{Says};
+ghost use Rattle.a2_promise.specs.MarkedLines.{Says};
 
 use crate::expr::{Atom, Expr};
 use crate::fault::{ReadFault, Refusal, Why};
@@ -16,7 +16,7 @@ use crate::reading::{Class, Token, token_in};
 use crate::texts::{Texts, push_text};
 use crate::words::{LOOSEST, Row, held_by, meaning};
 use a2_asm::Program;
-use a2_text::{behind_blanks, is_blank, split_word};
+use a2_text::{after_blanks, is_blank, split_word};
 use std::alloc::{AllocError, Global};
 
 /// The most levels of nesting in an expression.
@@ -319,7 +319,7 @@ impl<'a> Block<'a> {
         reader.rest = rest;
         reader.is_within = is_within(verb);
         self.is_within = still_within(self.is_within, verb);
-        let text = behind_blanks(reader.rest);
+        let text = after_blanks(reader.rest);
         match verb {
             Verb::Requires => push_fact(reader, &mut self.promise.wanted, line, text),
             Verb::Ensures => push_fact(reader, &mut self.promise.promised, line, text),
@@ -402,15 +402,15 @@ fn push_clause<'a>(clauses: &mut Vec<Clause<'a>>, clause: Clause<'a>) -> Result<
 pub fn promise_in(line: &[u8]) -> Option<&[u8]>
     ensures { MatchOption result ((rest : List ℕ) → Says line.now rest → ⊥) (λ rest. Says line.now rest.now) }
 {
-    match behind_blanks(line) {
+    match after_blanks(line) {
         [b';', b':', rest @ ..] => Some(rest),
         _ => None,
     }
 }
 
 // Returns whether a line is blank or a comment.
-fn is_silent(line: &[u8]) -> bool {
-    matches!(behind_blanks(line), [] | [b';', ..]) || matches!(line, [b'*', ..])
+fn is_blank_or_comment(line: &[u8]) -> bool {
+    matches!(after_blanks(line), [] | [b';', ..]) || matches!(line, [b'*', ..])
 }
 
 // Returns the label of a line; empty if it has no label.
@@ -486,12 +486,15 @@ fn entry_of(program: &Program<Global>, block: &Block, label: &[u8]) -> Result<u1
         Err(_) => None,
     };
     match named {
-        None => Err(at_line(block.first, "a promise stands before the line of a label")),
+        None => Err(at_line(
+            block.first,
+            "expected a line with a label after this promise; move the promise to just before its routine",
+        )),
         Some(address) => match program.instr_at(address) {
             Some(_) => Ok(address),
             None => Err(at_line(
                 block.first,
-                "a promise stands before a routine, and no instruction begins at this label",
+                "no instruction begins at the label after this promise; move the promise to just before its routine",
             )),
         },
     }
@@ -534,7 +537,7 @@ fn push_promise<'a>(
 }
 
 const OUTSIDE: &str =
-    "this stands in no routine: lines with requires, ensures, changes, prints or takes before a label begin one";
+    "no promise of a routine comes before this line; write requires, ensures or changes lines before the label of the routine";
 
 // Adds the clauses at a label within a routine to the last promise. If that promise has an error, they are ignored.
 fn attach<'a>(
@@ -625,7 +628,7 @@ pub fn promises_of<'a>(
     for (index, line) in lines.iter().enumerate() {
         if let Some(rest) = promise_in(*line) {
             take_line(alloc, &mut block, program, *line, index + 1, rest)?;
-        } else if !is_silent(*line) {
+        } else if !is_blank_or_comment(*line) {
             close(
                 alloc,
                 &mut found,

@@ -14,11 +14,11 @@ ghost use Rattle.a2_promise.specs.Tokens.{Token as ReadToken, quoted, tokens, wo
 
 use crate::expr::Expr;
 use crate::fault::{ReadFault, Why};
-use crate::parts::{Part, Unmade, expr_of};
+use crate::parts::{Part, PartsError, expr_of};
 use crate::reading::{Class, Token, address_of, decimal_of, token_in};
 use crate::words::Kind;
 use a2_asm::Program;
-use a2_text::behind_blanks;
+use a2_text::after_blanks;
 use std::alloc::{AllocError, Global};
 
 // The most names that may be bound inside one another.
@@ -103,7 +103,7 @@ impl<'a, 'p> Reader<'a, 'p> {
 
     /// Returns how many bytes of the line are left, from the next token on.
     pub fn bytes_left(&self) -> usize {
-        behind_blanks(self.rest).len()
+        after_blanks(self.rest).len()
     }
 
     /// Returns an error at the next token.
@@ -339,8 +339,8 @@ impl<'a, 'p> Reader<'a, 'p> {
     {
         match expr_of(self.alloc, self.parts.as_slice()) {
             Ok(expr) => Ok(expr),
-            Err(Unmade::TooFew) => self.refuse(Why::NothingSaid),
-            Err(Unmade::Memory) => Err(ReadFault::Memory),
+            Err(PartsError::TooFew) => self.refuse(Why::NothingSaid),
+            Err(PartsError::Memory) => Err(ReadFault::Memory),
         }
     }
 }

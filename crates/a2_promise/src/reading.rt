@@ -3,14 +3,14 @@
 ghost use Rattle.std.specs.Prelude.{◌≡◌, ℕ, List, take, drop, [], ◌∷◌, IfSome, MatchOption};
 ghost use Rattle.a2_text.specs.Bytes as byte;
 ghost use Rattle.a2_text.specs.Bytes.{value_of_digits};
-ghost use Rattle.a2_text.specs.Words.{behind_blanks as behind_blanks_of};
+ghost use Rattle.a2_text.specs.Words.{after_blanks as after_blanks_of};
 ghost use Rattle.a2_syntax.specs.Names.{is_name_byte};
 ghost use Rattle.a2_syntax.specs.Numbers.{is_quotable};
 ghost use Rattle.a2_promise.specs.Tokens as tokens;
 ghost use Rattle.a2_promise.specs.Tokens.{sign, quoted, token_from};
 ghost use Rattle.a2_promise.specs.Reading.{IsWritten, is_named, token_of, up_to as up_to_of, with_rest};
 
-use a2_text::{behind_blanks, front_len, number_in};
+use a2_text::{after_blanks, front_len, number_in};
 
 /// The kind of a token.
 #[derive(Clone, Copy, PartialEq)]
@@ -95,11 +95,11 @@ fn is_double(c: u8, d: u8) -> bool
 // least one character.
 fn up_to(quote: u8, text: &[u8]) -> Option<(&[u8], &[u8])>
     ensures { MatchOption result (up_to_of quote text.now ≡ (sign (quote ∷ []), text.now))
-        (λ (front, behind). up_to_of quote text.now ≡ (quoted quote front.now, behind.now)) }
+        (λ (front, following). up_to_of quote text.now ≡ (quoted quote front.now, following.now)) }
 {
     let (front, rest) = text.split_at(front_len(text, |c| may_stand(quote, c)));
     match rest {
-        [c, behind @ ..] if *c == quote && !front.is_empty() => Some((front, behind)),
+        [c, following @ ..] if *c == quote && !front.is_empty() => Some((front, following)),
         _ => None,
     }
 }
@@ -119,38 +119,38 @@ fn sign_length(text: &[u8]) -> usize
 fn cut_off(class: Class, text: &[u8], count: usize) -> (Token<'_>, &[u8])
     ensures class { result.0.class ≡ class }
     ensures front { result.0.text.now ≡ take count text.now }
-    ensures behind { result.1.now ≡ drop count text.now }
+    ensures following { result.1.now ≡ drop count text.now }
 {
-    let (front, behind) = text.split_at(count.min(text.len()));
-    (Token { class, text: front }, behind)
+    let (front, following) = text.split_at(count.min(text.len()));
+    (Token { class, text: front }, following)
 }
 
 /// Returns the next token of a line, and the text after it.
 pub(crate) fn token_in(line: &[u8]) -> (Token<'_>, &[u8])
-    ensures found { with_rest (token_of result.0.class result.0.text.now) result.1.now ≡ token_from (behind_blanks_of line.now) }
+    ensures found { with_rest (token_of result.0.class result.0.text.now) result.1.now ≡ token_from (after_blanks_of line.now) }
     ensures written { IsWritten result.0.class result.0.text.now }
 {
-    let here = behind_blanks(line);
+    let here = after_blanks(line);
     match here {
         [] => cut_off(Class::End, here, 0),
         [b'$', digits @ ..] => cut_off(Class::Place, digits, front_len(digits, is_hex_digit)),
         [b'\'', rest @ ..] => match up_to(b'\'', rest) {
-            Some((text, behind)) => (
+            Some((text, following)) => (
                 Token {
                     class: Class::Single,
                     text,
                 },
-                behind,
+                following,
             ),
             None => cut_off(Class::Sign, here, 1),
         },
         [b'"', rest @ ..] => match up_to(b'"', rest) {
-            Some((text, behind)) => (
+            Some((text, following)) => (
                 Token {
                     class: Class::Double,
                     text,
                 },
-                behind,
+                following,
             ),
             None => cut_off(Class::Sign, here, 1),
         },

@@ -1,14 +1,14 @@
 //! The texts that a routine prints, and the keys that it takes.
 
 ghost use Rattle.std.specs.Prelude.{◌≡◌, ℕ, List, [], ◌∷◌, ◌++◌, IfSome, OnOk};
-ghost use Rattle.a2_text.specs.Words.{behind_blanks as behind_blanks_of};
+ghost use Rattle.a2_text.specs.Words.{after_blanks as after_blanks_of};
 ghost use Rattle.a2_bus.specs.KeyText.{SpellsKeys};
 ghost use Rattle.a2_promise.specs.Reading.{AddsText};
 
 use crate::fault::{ReadFault, Why};
 use crate::reader::Reader;
 use a2_bus::Keys;
-use a2_text::behind_blanks;
+use a2_text::after_blanks;
 use std::alloc::AllocError;
 
 /// A text of a promise: the number of its line, its spelling with quotes, and its characters, each from 0 to 127.
@@ -67,9 +67,9 @@ pub(crate) fn push_text<'a>(
     texts: &mut Vec<Text<'a>>,
     line: usize,
 ) -> Result<(), ReadFault>
-    ensures { OnOk result (AddsText (behind_blanks_of reader.old.rest.now) texts.old.items texts.new.items) }
+    ensures { OnOk result (AddsText (after_blanks_of reader.old.rest.now) texts.old.items texts.new.items) }
 {
-    let written = behind_blanks(reader.rest);
+    let written = after_blanks(reader.rest);
     let Some(keys) = spelled(written) else {
         return reader.refuse(Why::NoSpelling);
     };

@@ -11,7 +11,7 @@ use std::alloc::Allocator;
 
 /// A state as promises see it: registers, RAM, and the cycles and steps since the entry.
 #[derive(Clone, Copy)]
-pub struct Sight<'a, A: Allocator> {
+pub struct StateView<'a, A: Allocator> {
     pub regs: Regs,
     pub space: &'a AddressSpace<A>,
     pub cycles: u32,
@@ -30,10 +30,10 @@ pub struct Visit<A: Allocator> {
 }
 
 // Returns the state of a visit.
-fn sight_of<A: Allocator>(visit: &Visit<A>) -> Sight<'_, A>
+fn sight_of<A: Allocator>(visit: &Visit<A>) -> StateView<'_, A>
     ensures { moment_of result ≡ values.moment_there visit.now }
 {
-    Sight {
+    StateView {
         regs: visit.regs,
         space: &visit.space,
         cycles: visit.cycles,
@@ -42,7 +42,7 @@ fn sight_of<A: Allocator>(visit: &Visit<A>) -> Sight<'_, A>
 }
 
 // Returns the state of the visit at an address.
-fn visited<'v, A: Allocator>(visits: &'v [Visit<A>], address: u16) -> Option<Sight<'v, A>>
+fn visited<'v, A: Allocator>(visits: &'v [Visit<A>], address: u16) -> Option<StateView<'v, A>>
     ensures { MatchOption result (values.visited visits.now address ≡ None)
         (λ sight. values.visited visits.now address ≡ Some (moment_of sight)) }
 {
@@ -66,7 +66,7 @@ fn digit(holds: bool) -> i64
 }
 
 // Returns the value of a register or flag, or a count of the run.
-fn held<A: Allocator>(atom: Atom, sight: &Sight<A>) -> i64
+fn held<A: Allocator>(atom: Atom, sight: &StateView<A>) -> i64
     ensures { result ≡ values.held atom (moment_of sight.now) }
 {
     let regs = sight.regs;
@@ -258,8 +258,8 @@ fn with_bound(names: Bounds, name: u8, number: u16) -> Bounds
 // labels before that, and the values of bound names.
 #[derive(Clone, Copy)]
 struct Scene<'s, A: Allocator> {
-    entry: &'s Sight<'s, A>,
-    exit: &'s Sight<'s, A>,
+    entry: &'s StateView<'s, A>,
+    exit: &'s StateView<'s, A>,
     visits: &'s [Visit<A>],
     names: Bounds,
 }
@@ -360,8 +360,8 @@ fn value_at<A: Allocator>(expr: &Expr, scene: &Scene<'_, A>) -> Option<i64>
 /// This project's profile.
 pub fn value_in<A: Allocator>(
     expr: &Expr,
-    entry: &Sight<A>,
-    exit: &Sight<A>,
+    entry: &StateView<A>,
+    exit: &StateView<A>,
     visits: &[Visit<A>],
     names: Bounds,
 ) -> Option<i64>
@@ -379,8 +379,8 @@ pub fn value_in<A: Allocator>(
 /// Returns the value of an expression for a run that has reached no label.
 pub fn value<A: Allocator>(
     expr: &Expr,
-    entry: &Sight<A>,
-    exit: &Sight<A>,
+    entry: &StateView<A>,
+    exit: &StateView<A>,
     names: Bounds,
 ) -> Option<i64>
     ensures { result ≡ value_of expr.now (moment_of entry.now) (moment_of exit.now) names }

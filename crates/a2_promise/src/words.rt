@@ -6,7 +6,7 @@ ghost use Rattle.a2_promise.specs.declared.reading.Class.TheVariants as class;
 ghost use Rattle.a2_promise.specs.declared.words.Infix.{Infix as DeclaredInfix};
 ghost use Rattle.a2_promise.specs.Grammar.{atom_kind, infix_rank, is_name_among, may_count, openings, tightest};
 ghost use Rattle.a2_promise.specs.Reading.{is_listed, listed, opening_token, token_of};
-ghost use Rattle.a2_promise.specs.Told.{change_names};
+ghost use Rattle.a2_promise.specs.PromisedTerms.{change_names};
 ghost use Rattle.a2_promise.specs.Tokens.{word};
 ghost use Rattle.a2_promise.specs.Written.{atom_name, infix_token};
 
@@ -62,10 +62,10 @@ pub enum Infix {
 pub(crate) const LOOSEST: u8 = 1;
 
 /// The rank just above `and`.
-pub(crate) const BEHIND_AND: u8 = 4;
+pub(crate) const ABOVE_AND: u8 = 4;
 
 /// The rank just above the comparisons.
-pub(crate) const BEHIND_COMPARISON: u8 = 6;
+pub(crate) const ABOVE_COMPARISON: u8 = 6;
 
 /// Returns the rank of an operator; a greater rank binds tighter.
 pub(crate) fn rank_of(join: Infix) -> u8

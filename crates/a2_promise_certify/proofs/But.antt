@@ -13,24 +13,24 @@ use Rattle.a2_bus.specs.Lawful.{board_lawful}
 use Rattle.a2_bus.specs.Memory.{ram_end}
 use Rattle.a2_bus.specs.PowerOn.{first_devices}
 use Rattle.a2_promise_certify.specs.declared.input.Input.{Input}
-use Rattle.a2_promise_certify.specs.But.{IsBut}
+use Rattle.a2_promise_certify.specs.But.{IsEqualExcept}
 use Rattle.a2_promise_certify.specs.States.{has_byte, is_byte}
 use Rattle.a2_promise_certify.specs.Walking.{is_set}
 use Rattle.a2_promise_certify.proofs.Marking.{marked}
 
 -- A board that equals another except for no byte is the other.
-pub same : (board other : BusState) → IsBut (λ a. false) board other → board ≡ other
+pub same : (board other : BusState) → IsEqualExcept (λ a. false) board other → board ≡ other
 same board other h =
     let bytes : board.bytes ≡ other.bytes = same_number_lists board.bytes other.bytes h.size (λ k lt. h.bytes k refl) in
     λ i. record { bytes = bytes i; devices = h.devices i }
 
-pub itself : (there : ℕ → Bool) (board : BusState) → IsBut there board board
+pub itself : (there : ℕ → Bool) (board : BusState) → IsEqualExcept there board board
 itself there board = record { size = refl; bytes = λ a out. refl; devices = refl }
 
-pub turned : (there : ℕ → Bool) (board other : BusState) → IsBut there board other → IsBut there other board
+pub turned : (there : ℕ → Bool) (board other : BusState) → IsEqualExcept there board other → IsEqualExcept there other board
 turned there board other h = record { size = sym h.size; bytes = λ a out. sym (h.bytes a out); devices = sym h.devices }
 
-pub joined : (there : ℕ → Bool) (board mid other : BusState) → IsBut there board mid → IsBut there mid other → IsBut there board other
+pub joined : (there : ℕ → Bool) (board mid other : BusState) → IsEqualExcept there board mid → IsEqualExcept there mid other → IsEqualExcept there board other
 joined there board mid other first second = record {
   size = first.size ∙ second.size;
   bytes = λ a out. first.bytes a out ∙ second.bytes a out;
@@ -39,7 +39,7 @@ joined there board mid other first second = record {
 
 -- The same holds except for more bytes.
 pub wider : (there more : ℕ → Bool) (board other : BusState) → ((a : ℕ) → there a ≡ true → more a ≡ true)
-    → IsBut there board other → IsBut more board other
+    → IsEqualExcept there board other → IsEqualExcept more board other
 wider there more board other into h = record {
   size = h.size;
   bytes = λ a out. h.bytes a (outside a out (there a) refl);
@@ -50,16 +50,16 @@ wider there more board other into h = record {
     outside a out true is = absurd (true≢false (sym (into a is) ∙ out))
     outside a out false is = is
 
-module _ (there : ℕ → Bool) (board other : BusState) (a : ℕ) (but : IsBut (λ b. (a == b) || there b) board other) where
+module _ (there : ℕ → Bool) (board other : BusState) (a : ℕ) (but : IsEqualExcept (λ b. (a == b) || there b) board other) where
   -- One byte is set to the other board's.
   pub put_there : (byte : ℕ) → slice_get other.bytes a ≡ Some byte → (new : BusState) → new ≡ board_access.after_write board a byte
-      → IsBut there new other
-  put_there byte at new left = subst (λ b. IsBut there b other) (sym (left ∙ board_lawful.ram_write board a byte low)) put
+      → IsEqualExcept there new other
+  put_there byte at new left = subst (λ b. IsEqualExcept there b other) (sym (left ∙ board_lawful.ram_write board a byte low)) put
     where
       low : a < length board.bytes
       low = omega (arith, slice_get_within other.bytes a byte at, but.size)
 
-      put : IsBut there (record board { bytes = slice_set board.bytes a byte }) other
+      put : IsEqualExcept there (record board { bytes = slice_set board.bytes a byte }) other
       put = record {
         size = length-set board.bytes a byte ∙ but.size;
         bytes = λ b out. each b out (a == b) refl;
@@ -77,7 +77,7 @@ module _ (there : ℕ → Bool) (board other : BusState) (a : ℕ) (but : IsBut 
               get_or-set_other board.bytes a b byte 0 e ∙ but.bytes b (ap (λ v. v || there b) is ∙ out)
 
   -- Above RAM there is no byte to set.
-  pub none_there : slice_get other.bytes a ≡ None → IsBut there board other
+  pub none_there : slice_get other.bytes a ≡ None → IsEqualExcept there board other
   none_there none = record {
     size = but.size;
     bytes = λ b out. each b out (a == b) refl;
@@ -100,9 +100,9 @@ module _ (there : ℕ → Bool) (board other : BusState) (a : ℕ) (but : IsBut 
 
 -- one stored byte
 pub stored_one : (board new : BusState) (a byte : ℕ) → a < length board.bytes → new ≡ board_access.after_write board a byte
-    → IsBut (λ b. a == b) new board
+    → IsEqualExcept (λ b. a == b) new board
 stored_one board new a byte low left =
-    subst (λ b. IsBut (λ n. a == n) b board) (sym (left ∙ board_lawful.ram_write board a byte low)) (record {
+    subst (λ b. IsEqualExcept (λ n. a == n) b board) (sym (left ∙ board_lawful.ram_write board a byte low)) (record {
       size = length-set board.bytes a byte;
       bytes = λ b out. let e : b ≢ a = grind (arith, nat_tests, out) in get_or-set_other board.bytes a b byte 0 e;
       devices = refl;
@@ -114,13 +114,13 @@ or_true : (v w : Bool) → w ≡ true → (v || w) ≡ true
 or_true true w is = refl
 or_true false w is = is
 
-pub input_more : (input : Input) (rest : List Input) (board other : BusState) → IsBut (has_byte rest) board other
-    → IsBut (has_byte (input ∷ rest)) board other
+pub input_more : (input : Input) (rest : List Input) (board other : BusState) → IsEqualExcept (has_byte rest) board other
+    → IsEqualExcept (has_byte (input ∷ rest)) board other
 input_more input rest board other h =
     wider (has_byte rest) (has_byte (input ∷ rest)) board other (λ a is. or_true (is_byte a input) (has_byte rest a) is) h
 
-pub input_first : (input : Input) (rest : List Input) (new mid old : BusState) → IsBut (has_byte rest) mid old → IsBut (λ a. is_byte a input) new mid
-    → IsBut (has_byte (input ∷ rest)) new old
+pub input_first : (input : Input) (rest : List Input) (new mid old : BusState) → IsEqualExcept (has_byte rest) mid old → IsEqualExcept (λ a. is_byte a input) new mid
+    → IsEqualExcept (has_byte (input ∷ rest)) new old
 input_first input rest new mid old others first =
     joined (has_byte (input ∷ rest)) new mid old
     (wider (λ a. is_byte a input) (has_byte (input ∷ rest)) new mid (λ a is. ap (λ v. v || has_byte rest a) is) first)
@@ -184,10 +184,10 @@ cleared place rest marks covers a is =
 past : (marks : List Bool) (a : ℕ) → length marks ≤ a → is_set marks a ≡ false
 past [] a le = refl
 past (x ∷ marks) zero le = let bad : ⊥ = omega (arith, le) in absurd bad
-past (x ∷ marks) (suc a) le = let behind : length marks ≤ a = omega (arith, le) in past marks a behind
+past (x ∷ marks) (suc a) le = let following : length marks ≤ a = omega (arith, le) in past marks a following
 
-pub behind : (place : ℕ) (rest : List ℕ) (marks : List Bool) → length marks ≤ place → Covers (place ∷ rest) marks → Covers rest marks
-behind place rest marks le covers a is = go (place == a) refl
+pub following : (place : ℕ) (rest : List ℕ) (marks : List Bool) → length marks ≤ place → Covers (place ∷ rest) marks → Covers rest marks
+following place rest marks le covers a is = go (place == a) refl
   where
     go : (here : Bool) → (place == a) ≡ here → IsTrue (is_among rest a)
     go true e =

@@ -6,7 +6,7 @@ use Rattle.std.proofs.lemmas.Bool.Decides.{nat_tests}
 use Rattle.a2_bus.specs.BusState.{BusState}
 use Rattle.a2_effect.specs.Registers.{Registers}
 use Rattle.a2_services.specs.declared.rows.Service.{Service}
-use Rattle.a2_services.specs.Called.{IsCallMade}
+use Rattle.a2_services.specs.Called.{IsCallExecuted}
 use Rattle.a2_services.specs.Services.{reach, service_at}
 use Rattle.a2_services.specs.World.{world_of}
 use Rattle.a2_machine.specs.ByteRun.{bytes}
@@ -17,7 +17,7 @@ use Rattle.a2_footprint.specs.Parts.{with_parts}
 use Rattle.a2_footprint.specs.Reads.{Knows}
 use Rattle.a2_footprint.specs.Services.{is_keyless, service_needs, service_reads, service_sets, service_stores}
 use Rattle.a2_footprint.specs.Fetches.{addresses_from}
-use Rattle.a2_footprint.specs.Turned.{FoundOffStack, in_stack}
+use Rattle.a2_footprint.specs.RotatedStack.{FoundOffStack, in_stack}
 use Rattle.a2_footprint.proofs.Running.{IsFoundBy, calm_cause, needs_at, next_served, reads_at, sets_at, stores_at, stuck_served}
 use Rattle.a2_promise_certify.specs.declared.known_parts.KnownParts.{KnownParts}
 use Rattle.a2_promise_certify.specs.Kept.{code}
@@ -48,7 +48,7 @@ module _ (service : Service) (registers : Registers) (bus : BusState) (is : serv
       (looks : list_all (knows_part parts) (service_needs service) ≡ true)
       (shown : (before : ℕ) → Knows (known_now known stored) (service_reads service (world_of registers bus before)))
       (marked : (before : ℕ) → AreMarked stored new_stored changes (service_stores service (world_of registers bus before)))
-      (made : IsCallMade service registers bus new_registers new_bus cycles)
+      (made : IsCallExecuted service registers bus new_registers new_bus cycles)
       (learned : (part : Part) → knows_part new_parts part ≡ with_parts (service_sets service) (knows_part parts) part) where
     going : (before : ℕ) → stuck code (world_of registers bus before) ≡ None
     going before =

@@ -17,26 +17,26 @@ use Rattle.a2_services.specs.Services.{service_at}
 use Rattle.a2_machine.specs.Meaning.{Code, Decoded, found_at_pc, stuck, world_at}
 use Rattle.a2_promise.specs.declared.promises.Changes.{Changes}
 use Rattle.a2_promise.specs.declared.promises.Promise.{Promise}
-use Rattle.a2_promise.specs.Looks.{AgreeAt, ValuesDependOnLooks}
+use Rattle.a2_promise.specs.ReadsOfValues.{AgreeAt, ValuesDependOnlyOnReads}
 use Rattle.a2_footprint.specs.declared.Part.{Part}
 use Rattle.a2_footprint.specs.declared.Part.TheVariants.{A as part_a, X as part_x, Y as part_y}
-use Rattle.a2_footprint.specs.Calls.{ComesToRts, GoesBack, caller}
+use Rattle.a2_footprint.specs.Calls.{ReachesRts, GoesBack, caller}
 use Rattle.a2_footprint.specs.Counting.{HasNumber}
 use Rattle.a2_footprint.specs.Parts.{held, is_part}
 use Rattle.a2_footprint.specs.Reads.{AgreeOn}
-use Rattle.a2_footprint.specs.Runs.{RunsAlike, known_behind, stores_in, step_stores}
+use Rattle.a2_footprint.specs.Runs.{RunsAlike, bytes_known_after, stores_in, step_stores}
 use Rattle.a2_footprint.specs.Stays.{is_register}
 use Rattle.a2_footprint.specs.Fetches.{addresses_from}
 use Rattle.a2_footprint.specs.Services.{is_keyless}
-use Rattle.a2_footprint.specs.Turned.{FoundOffStack, IsOffStack, IsTurned, RunIsOffStack, StepIsOffStack, in_stack, moves_s, operand_uses, turned_address, turned_memory}
-use Rattle.a2_footprint.specs.Uses.{Near, step_sets, parts_behind}
+use Rattle.a2_footprint.specs.RotatedStack.{FoundOffStack, IsOffStack, IsRotated, RunIsOffStack, StepIsOffStack, in_stack, moves_s, operand_uses, rotated_address, rotated_memory}
+use Rattle.a2_footprint.specs.Uses.{Near, step_sets, parts_known_after}
 use Rattle.a2_footprint.specs.InstructionReads.{pointer_reads}
 use Rattle.a2_footprint.proofs.Agreeing.{among_or}
 use Rattle.a2_footprint.proofs.Calling.{calls}
 use Rattle.a2_footprint.proofs.Counting.{counted}
 use Rattle.a2_footprint.proofs.Running.{next_is, runs}
 use Rattle.a2_footprint.proofs.Staying.{staying}
-use Rattle.a2_footprint.proofs.TurnedMemory.{not_in_stack, turned_byte}
+use Rattle.a2_footprint.proofs.RotatedMemory.{not_in_stack, turned_byte}
 use Rattle.a2_footprint.proofs.Turning.{staying_off, turning}
 use Rattle.a2_promise_certify.specs.States.{Trial, Enters, known_bytes, known_parts, value_in, values_of, with_values}
 use Rattle.a2_promise_certify.specs.Kept.{IsEnsured, IsKept, IsRequired, Keeps, code, is_own, known_by, may_change, may_store, moment}
@@ -47,19 +47,19 @@ use Rattle.a2_promise_certify.proofs.States.{near, with_inputs}
 
 -- What is known stays known.
 
-pub known_later : (program : Code) (known : ℕ → Bool) (start : World) (n a : ℕ) → IsTrue (known a) → IsTrue (known_behind program known start n a)
-unfolding known_behind
+pub known_later : (program : Code) (known : ℕ → Bool) (start : World) (n a : ℕ) → IsTrue (known a) → IsTrue (bytes_known_after program known start n a)
+unfolding bytes_known_after
 known_later program known start zero a is = is
 known_later program known start (suc n) a is =
-    among_or (is_among (step_stores program (world_at program start n)) a) (known_behind program known start n a)
+    among_or (is_among (step_stores program (world_at program start n)) a) (bytes_known_after program known start n a)
     (known_later program known start n a is)
 
 pub part_later : (program : Code) (known : Part → Bool) (start : World) (n : ℕ) (part : Part) → IsTrue (known part)
-    → IsTrue (parts_behind program known start n part)
-unfolding parts_behind
+    → IsTrue (parts_known_after program known start n part)
+unfolding parts_known_after
 part_later program known start zero part is = is
 part_later program known start (suc n) part is =
-    among_or (list_any (is_part part) (step_sets program (world_at program start n))) (parts_behind program known start n part)
+    among_or (list_any (is_part part) (step_sets program (world_at program start n))) (parts_known_after program known start n part)
     (part_later program known start n part is)
 
 -- The cycles of an RTS
@@ -78,7 +78,7 @@ rts_cost d w rts implied =
 
 -- A world near the first one of a run to an RTS takes the same cycles, including those of the RTS.
 last_cycles : (program : Code) (parts : Part → Bool) (bytes : ℕ → Bool) (s t : World) (n : ℕ) (h : Near parts (AgreeOn bytes) s t)
-    (to : ComesToRts program parts bytes s n) → to.rts.row.mode ≡ Implied
+    (to : ReachesRts program parts bytes s n) → to.rts.row.mode ≡ Implied
     → (world_at program t (suc n)).cycles ≡ (world_at program t n).cycles + cost to.rts.row
 unfolding world_at
 last_cycles program parts bytes s t n h to implied =
@@ -108,8 +108,8 @@ back_registers program t n back part =
 
 -- After both have executed the RTS, the two worlds are alike in what is known, except for PC
 module _ (program : Code) (parts : Part → Bool) (bytes : ℕ → Bool) (s t : World) (n : ℕ) (h : Near parts (AgreeOn bytes) s t)
-    (to : ComesToRts program parts bytes s n) (implied : to.rts.row.mode ≡ Implied) where
-  mid : Near (parts_behind program parts s n) (AgreeOn (known_behind program bytes s n)) (world_at program s n) (world_at program t n)
+    (to : ReachesRts program parts bytes s n) (implied : to.rts.row.mode ≡ Implied) where
+  mid : Near (parts_known_after program parts s n) (AgreeOn (bytes_known_after program bytes s n)) (world_at program s n) (world_at program t n)
   mid = (runs program parts bytes s t n h to.reads to.needs).0
 
   first : GoesBack program s n
@@ -118,11 +118,11 @@ module _ (program : Code) (parts : Part → Bool) (bytes : ℕ → Bool) (s t : 
   second : GoesBack program t n
   second = calls program parts bytes s t n h to
 
-  pub behind : AreAlike (known_behind program bytes s n) (parts_behind program parts s n) s (world_at program s (suc n)) t (world_at program t (suc n))
-  behind = record {
+  pub following : AreAlike (bytes_known_after program bytes s n) (parts_known_after program parts s n) s (world_at program s (suc n)) t (world_at program t (suc n))
+  following = record {
     parts = λ part known. back_registers program s n first part ∙ mid.registers.parts part known ∙ sym (back_registers program t n second part);
     bytes = λ a low off known. ap (λ m. ram_byte m a) first.memory ∙ mid.memory.bytes a low known ∙ sym (ap (λ m. ram_byte m a) second.memory);
-    cycles = ap₂ (λ behind before. behind - before)
+    cycles = ap₂ (λ following before. following - before)
         (last_cycles program parts bytes s s n (self parts bytes s t h) to implied ∙ ap (λ c. c + cost to.rts.row) mid.cycles
         ∙ sym (last_cycles program parts bytes s t n h to implied)) h.cycles;
   }
@@ -132,7 +132,7 @@ entered : (parts : Part → Bool) (bytes : ℕ → Bool) (s t : World) → Near 
 entered parts bytes s t h = record {
   parts = h.registers.parts;
   bytes = λ a low off known. h.memory.bytes a low known;
-  cycles = ap₂ (λ behind before. behind - before) h.cycles h.cycles;
+  cycles = ap₂ (λ following before. following - before) h.cycles h.cycles;
 }
 
 is_kept_register : (changes : Changes) (part : Part) → may_change changes part ≡ false → is_register part ≡ true
@@ -155,10 +155,10 @@ rts_off_stack d w rts implied = record {
 }
 
 -- from one state to the worlds that have its inputs, and then to those with a rotated stack
-module _ (law : ValuesDependOnLooks) (trial : Trial) (promise : Promise) (limit : ℕ) (s t : World)
+module _ (law : ValuesDependOnlyOnReads) (trial : Trial) (promise : Promise) (limit : ℕ) (s t : World)
     (h : Near (known_parts trial) (AgreeOn (known_bytes trial)) s t) (kept : IsKept (known_bytes trial) (known_parts trial) promise limit s)
-    (turn : ℕ) (w : World) (turned : IsTurned turn t w) where
-  run : Near (parts_behind code (known_parts trial) s kept.steps) (AgreeOn (known_behind code (known_bytes trial) s kept.steps))
+    (turn : ℕ) (w : World) (turned : IsRotated turn t w) where
+  run : Near (parts_known_after code (known_parts trial) s kept.steps) (AgreeOn (bytes_known_after code (known_bytes trial) s kept.steps))
       (world_at code s kept.steps) (world_at code t kept.steps)
   run = (runs code (known_parts trial) (known_bytes trial) s t kept.steps h kept.comes.reads kept.comes.needs).0
 
@@ -186,11 +186,11 @@ module _ (law : ValuesDependOnLooks) (trial : Trial) (promise : Promise) (limit 
   all_off : RunIsOffStack t (suc kept.steps)
   all_off = λ k lt. let below : k < kept.steps + 1 = omega (arith, lt) in below_more (λ j. StepIsOffStack (world_at code t j)) kept.steps off at_home k below
 
-  midway : IsTurned turn (world_at code t kept.steps) (world_at code w kept.steps)
+  midway : IsRotated turn (world_at code t kept.steps) (world_at code w kept.steps)
   midway = (turning turn t w kept.steps turned left.going off).1
 
   last : ((k : ℕ) → k < suc kept.steps → stuck code (world_at code w k) ≡ None)
-      × IsTurned turn (world_at code t (suc kept.steps)) (world_at code w (suc kept.steps))
+      × IsRotated turn (world_at code t (suc kept.steps)) (world_at code w (suc kept.steps))
   last = turning turn t w (suc kept.steps) turned back.going all_off
 
   goes_back : GoesBack code w kept.steps
@@ -198,7 +198,7 @@ module _ (law : ValuesDependOnLooks) (trial : Trial) (promise : Promise) (limit 
     going = last.0;
     registers = turned_back turn t w turned (world_at code t kept.steps) (world_at code w kept.steps)
         (world_at code t (suc kept.steps)) (world_at code w (suc kept.steps)) midway last.1 back.registers;
-    memory = last.1.memory ∙ ap (λ m. turned_memory turn m) back.memory ∙ sym midway.memory;
+    memory = last.1.memory ∙ ap (λ m. rotated_memory turn m) back.memory ∙ sym midway.memory;
   }
 
   ensured : IsEnsured promise w (suc kept.steps)
@@ -206,21 +206,21 @@ module _ (law : ValuesDependOnLooks) (trial : Trial) (promise : Promise) (limit 
       let n : ℕ = kept.steps in
       let parts : Part → Bool = known_parts trial in
       let bytes : ℕ → Bool = known_bytes trial in
-      sym (same_hold law promise.promised.items (known_by bytes parts) (known_by (known_behind code bytes s n) (parts_behind code parts s n))
+      sym (same_hold law promise.promised.items (known_by bytes parts) (known_by (bytes_known_after code bytes s n) (parts_known_after code parts s n))
       (moment s s 0) (moment s (world_at code s (suc n)) (suc n)) (moment w w 0) (moment w (world_at code w (suc n)) (suc n))
       (agree bytes parts s s w w 0 (turned_alike bytes parts s s t t w w turn turn turned turned (entered parts bytes s t h)))
-      (agree (known_behind code bytes s n) (parts_behind code parts s n) s (world_at code s (suc n)) w (world_at code w (suc n)) (suc n)
-      (turned_alike (known_behind code bytes s n) (parts_behind code parts s n) s (world_at code s (suc n)) t (world_at code t (suc n)) w (world_at code w (suc n))
-      turn turn turned last.1 (behind code parts bytes s t n h kept.comes kept.implied))) kept.looks)
+      (agree (bytes_known_after code bytes s n) (parts_known_after code parts s n) s (world_at code s (suc n)) w (world_at code w (suc n)) (suc n)
+      (turned_alike (bytes_known_after code bytes s n) (parts_known_after code parts s n) s (world_at code s (suc n)) t (world_at code t (suc n)) w (world_at code w (suc n))
+      turn turn turned last.1 (following code parts bytes s t n h kept.comes kept.implied))) kept.looks)
       ∙ kept.ensured
 
   stayed : (part : Part) → may_change promise.changes part ≡ false
-      → (parts_behind code (known_parts trial) s kept.steps part ≡ false)
+      → (parts_known_after code (known_parts trial) s kept.steps part ≡ false)
       ⊎ (IsTrue (known_parts trial part) × (held part (world_at code s kept.steps).registers ≡ held part s.registers))
       → held part (world_at code t kept.steps).registers ≡ held part t.registers
   stayed part may (inl is) =
       staying code (known_parts trial) (known_bytes trial) s t kept.steps h kept.comes.reads kept.comes.needs part
-      (is_kept_register promise.changes part may) (unknown (parts_behind code (known_parts trial) s kept.steps part) is)
+      (is_kept_register promise.changes part may) (unknown (parts_known_after code (known_parts trial) s kept.steps part) is)
   stayed part may (inr same) =
       sym (run.registers.parts part (part_later code (known_parts trial) s kept.steps part same.0)) ∙ same.1 ∙ h.registers.parts part same.0
 
@@ -233,7 +233,7 @@ module _ (law : ValuesDependOnLooks) (trial : Trial) (promise : Promise) (limit 
       sym (run.memory.bytes a low (known_later code (known_bytes trial) s kept.steps a same.0)) ∙ same.1 ∙ h.memory.bytes a low same.0
 
   -- What a byte of the rotated world holds is in the other world, too.
-  shown : (v : World) (other : World) → IsTurned turn v other → (a : ℕ) → ram_byte other.memory a ≡ ram_byte v.memory (turned_address turn a)
+  shown : (v : World) (other : World) → IsRotated turn v other → (a : ℕ) → ram_byte other.memory a ≡ ram_byte v.memory (rotated_address turn a)
   shown v other is a = ap (λ m. ram_byte m a) is.memory ∙ turned_byte turn v.memory a
 
   rest : (a : ℕ) → a < ram_end → is_own w.registers.s a ≡ false → may_store promise.changes a ≡ false
@@ -241,14 +241,14 @@ module _ (law : ValuesDependOnLooks) (trial : Trial) (promise : Promise) (limit 
   rest a low own may = shown _ _ midway a ∙ go (in_stack a) refl ∙ sym (shown _ _ turned a)
     where
       go : (stacked : Bool) → in_stack a ≡ stacked
-          → ram_byte (world_at code t kept.steps).memory (turned_address turn a) ≡ ram_byte t.memory (turned_address turn a)
+          → ram_byte (world_at code t kept.steps).memory (rotated_address turn a) ≡ ram_byte t.memory (rotated_address turn a)
       go false e =
           subst (λ b. ram_byte (world_at code t kept.steps).memory b ≡ ram_byte t.memory b) (sym (not_in_stack turn a e))
           (outside a low (kept.rest a low e may))
       go true e =
-          left.rest (turned_address turn a)
-          (kept.own (turned_address turn a) (still_stacked turn a e)
-          (ap (λ x. is_own x (turned_address turn a)) h.registers.s ∙ same_own turn t w turned a e ∙ own))
+          left.rest (rotated_address turn a)
+          (kept.own (rotated_address turn a) (still_stacked turn a e)
+          (ap (λ x. is_own x (rotated_address turn a)) h.registers.s ∙ same_own turn t w turned a e ∙ own))
 
   pub lifted : Keeps promise limit w
   lifted = record {
@@ -262,11 +262,11 @@ module _ (law : ValuesDependOnLooks) (trial : Trial) (promise : Promise) (limit 
     rest = λ a low own may. ap (λ m. ram_byte m a) goes_back.memory ∙ rest a low own may;
   }
 
-pub everywhere : ValuesDependOnLooks → PromisesHoldEverywhere
+pub everywhere : ValuesDependOnlyOnReads → PromisesHoldEverywhere
 everywhere law trial promise limit holds s w low enters required =
     let turn : ℕ = turn_to s trial.base.registers.s in
     let u : World = turned_from turn trial.base.registers.s w in
-    let turned : IsTurned turn u w = is_turned_from s trial.base.registers.s w (sym enters.registers.s) low holds.s in
+    let turned : IsRotated turn u w = is_turned_from s trial.base.registers.s w (sym enters.registers.s) low holds.s in
     let there : Enters trial u = entered_there trial s w low holds.s enters holds.off_stack in
     let number : HasNumber (map values_of trial.inputs) (map (value_in u) trial.inputs) =
     counted (map values_of trial.inputs) (map (value_in u) trial.inputs) there.inputs in

@@ -1,7 +1,7 @@
 -- What a choice between two values depends on.
 use Rattle.std.specs.Prelude.{◌≡◌, ◌⊎◌, ℤ, not, Bool, true, false, Option, Some, None}
 use Rattle.std.proofs.Common.{sym, subst, inl, inr, true≢false}
-use Rattle.a2_promise.specs.Looks.{OfBoth, OfChosen}
+use Rattle.a2_promise.specs.ReadsOfValues.{OfBoth, OfChosen}
 use Rattle.a2_promise.specs.Values.{is_zero}
 use Rattle.a2_promise_certify.specs.Judging.{holds}
 

@@ -13,7 +13,7 @@ use Rattle.a2_page.specs.Cells.{numbers_from}
 use Rattle.a2_footprint.specs.declared.Part.{Part}
 use Rattle.a2_footprint.specs.declared.Part.TheVariants.{A as part_a, X as part_x, Y as part_y, N as part_n, V as part_v, D as part_d, I as part_i, Z as part_z, C as part_c}
 use Rattle.a2_footprint.specs.Parts.{is_part}
-use Rattle.a2_footprint.specs.Turned.{in_stack}
+use Rattle.a2_footprint.specs.RotatedStack.{in_stack}
 use Rattle.a2_promise_certify.specs.declared.known_parts.KnownParts.{KnownParts}
 use Rattle.a2_promise.specs.declared.promises.Changes.{Changes}
 use Rattle.a2_promise_certify.specs.Kept.{is_own}

@@ -10,14 +10,14 @@ use Rattle.a2_services.specs.World.{World}
 use Rattle.a2_promise.specs.declared.expr.Atom.{Atom}
 use Rattle.a2_promise.specs.declared.expr.Atom.TheVariants as atom
 use Rattle.a2_promise.specs.declared.promises.Clause.{Clause}
-use Rattle.a2_promise.specs.Looks.{AgreeAt, Known, ValuesDependOnLooks}
+use Rattle.a2_promise.specs.ReadsOfValues.{AgreeAt, Known, ValuesDependOnlyOnReads}
 use Rattle.a2_promise.specs.Values.{Moment, digit, held as held_atom}
 use Rattle.a2_footprint.specs.declared.Part.{Part}
 use Rattle.a2_footprint.specs.declared.Part.TheVariants.{A as part_a, X as part_x, Y as part_y, N as part_n, V as part_v, D as part_d, I as part_i, Z as part_z, C as part_c}
 use Rattle.a2_footprint.specs.Parts.{held}
-use Rattle.a2_footprint.specs.Turned.{in_stack}
+use Rattle.a2_footprint.specs.RotatedStack.{in_stack}
 use Rattle.a2_promise_certify.specs.Judging.{all_hold, holds, no_names}
-use Rattle.a2_promise_certify.specs.Kept.{LookAtKnown, bytes_of, knows_atom, known_by, moment}
+use Rattle.a2_promise_certify.specs.Kept.{AreClausesKnown, bytes_of, knows_atom, known_by, moment}
 
 -- a byte of a list that holds a function's value for each number
 made : (f : ℕ → ℕ) (n a : ℕ) → a < n → slice_get (map f (range_with_len 0 n)) a ≡ Some (f a)
@@ -88,9 +88,9 @@ agree bytes parts one first other second steps h = record {
     atoms atom.Cycles known = ap (λ n. pos n) h.cycles
     atoms atom.Steps known = refl
 
-pub same_hold : ValuesDependOnLooks → (clauses : List Clause) (before behind : Known) (m n u v : Moment) → AgreeAt before m u → AgreeAt behind n v
-    → LookAtKnown clauses before behind m n → all_hold clauses m n ≡ all_hold clauses u v
-same_hold law [] before behind m n u v entry exit looks = refl
-same_hold law (clause ∷ rest) before behind m n u v entry exit looks =
-    ap₂ (λ here there. here && there) (ap holds (law clause.expr before behind m n u v no_names entry exit looks.0))
-    (same_hold law rest before behind m n u v entry exit looks.1)
+pub same_hold : ValuesDependOnlyOnReads → (clauses : List Clause) (before following : Known) (m n u v : Moment) → AgreeAt before m u → AgreeAt following n v
+    → AreClausesKnown clauses before following m n → all_hold clauses m n ≡ all_hold clauses u v
+same_hold law [] before following m n u v entry exit looks = refl
+same_hold law (clause ∷ rest) before following m n u v entry exit looks =
+    ap₂ (λ here there. here && there) (ap holds (law clause.expr before following m n u v no_names entry exit looks.0))
+    (same_hold law rest before following m n u v entry exit looks.1)

@@ -13,7 +13,7 @@ use Rattle.a2_services.specs.World.{world_of}
 use Rattle.a2_footprint.specs.Counting.{states_of}
 use Rattle.a2_promise_certify.specs.declared.input.Input.{Input}
 use Rattle.a2_promise_certify.specs.declared.input.Input.TheVariants.{Byte}
-use Rattle.a2_promise_certify.specs.Certifying.{AreLaid}
+use Rattle.a2_promise_certify.specs.Certifying.{AreMarkedWhere}
 use Rattle.a2_promise_certify.specs.States.{values_of, with_value}
 use Rattle.a2_promise_certify.specs.Walking.{is_set}
 
@@ -62,15 +62,15 @@ one_longer : (known : List Bool) (b : Bool) → length (known ++ b ∷ []) ≡ l
 one_longer [] b = refl
 one_longer (x ∷ known) b = let e : length (known ++ b ∷ []) ≡ length known + 1 = one_longer known b in omega (arith, e)
 
-pub none_laid : (test : ℕ → Bool) (known : List Bool) → known ≡ [] → AreLaid test known 0
+pub none_laid : (test : ℕ → Bool) (known : List Bool) → known ≡ [] → AreMarkedWhere test known 0
 none_laid test known none = record {
   size = ap length none;
   within = omega arith;
   marks = λ a lt. (let bad : ⊥ = omega (arith, lt) in absurd bad);
 }
 
-pub one_laid : (test : ℕ → Bool) (known : List Bool) (count : ℕ) (b : Bool) → count < ram_end → b ≡ test count → AreLaid test known count
-    → AreLaid test (known ++ b ∷ []) (count + 1)
+pub one_laid : (test : ℕ → Bool) (known : List Bool) (count : ℕ) (b : Bool) → count < ram_end → b ≡ test count → AreMarkedWhere test known count
+    → AreMarkedWhere test (known ++ b ∷ []) (count + 1)
 one_laid test known count b low is h = record {
   size = one_longer known b ∙ ap (λ n. n + 1) h.size;
   within = omega (arith, low);
@@ -82,6 +82,6 @@ one_laid test known count b low is h = record {
     go a (inr e) = ap (λ n. is_set (known ++ b ∷ []) n) (e ∙ sym h.size) ∙ last_mark known b ∙ is ∙ ap (λ n. test n) (sym e)
 
 -- All addresses are marked.
-pub all_laid : (test : ℕ → Bool) (known : List Bool) (count : ℕ) → ram_end ≤ count → AreLaid test known count → AreLaid test known ram_end
+pub all_laid : (test : ℕ → Bool) (known : List Bool) (count : ℕ) → ram_end ≤ count → AreMarkedWhere test known count → AreMarkedWhere test known ram_end
 all_laid test known count end h =
-    let e : count ≡ ram_end = omega (arith, end, h.within) in subst (λ n. AreLaid test known n) e h
+    let e : count ≡ ram_end = omega (arith, end, h.within) in subst (λ n. AreMarkedWhere test known n) e h

@@ -4,7 +4,7 @@ use Rattle.std.specs.List.{flat_map}
 use Rattle.std.proofs.Common.{arith}
 use Rattle.a2_page.specs.Cells.{numbers_from}
 use Rattle.a2_page.specs.Grid.{Window}
-use Rattle.a2_services.specs.Blocks.{span_of}
+use Rattle.a2_services.specs.Blocks.{numbers_from_to}
 use Rattle.a2_footprint.specs.Reads.{Knows}
 use Rattle.a2_footprint.specs.Services.{cells_across, window_cells}
 use Rattle.a2_promise_certify.proofs.Walking.{knows_both}
@@ -49,6 +49,6 @@ knows_window known window end high reach h =
 
 -- the cells of a span of blocks
 pub knows_span : (known : ℕ → Bool) (f : ℕ → ℕ) (first last end : ℕ) → first < end → last < end
-    → HoldsBelow (λ k. IsTrue (known (f k))) first end → Knows known (map f (span_of first last))
+    → HoldsBelow (λ k. IsTrue (known (f k))) first end → Knows known (map f (numbers_from_to first last))
 knows_span known f first last end low high h =
     knows_map known f first (last - first + 1) (λ k least lt. h k least (omega (arith, low, high, lt)))

@@ -12,18 +12,18 @@ use Rattle.a2_machine.specs.ByteRun.{bytes, decoded_or_cause}
 use Rattle.a2_machine.proofs.Outcomes.{no_return, no_service}
 use Rattle.a2_promise.specs.declared.promises.Clause.{Clause}
 use Rattle.a2_promise.specs.declared.promises.Promise.{Promise}
-use Rattle.a2_promise.specs.Looks.{Known}
+use Rattle.a2_promise.specs.ReadsOfValues.{Known}
 use Rattle.a2_promise.specs.Values.{Moment}
 use Rattle.a2_footprint.specs.declared.Part.{Part}
-use Rattle.a2_footprint.specs.Turned.{in_stack}
-use Rattle.a2_footprint.specs.Calls.{ComesToRts}
+use Rattle.a2_footprint.specs.RotatedStack.{in_stack}
+use Rattle.a2_footprint.specs.Calls.{ReachesRts}
 use Rattle.a2_footprint.specs.Parts.{held}
-use Rattle.a2_footprint.specs.Runs.{known_behind, stores_in}
-use Rattle.a2_footprint.specs.Uses.{parts_behind}
+use Rattle.a2_footprint.specs.Runs.{bytes_known_after, stores_in}
+use Rattle.a2_footprint.specs.Uses.{parts_known_after}
 use Rattle.a2_footprint.proofs.Calling.{not_refused}
 use Rattle.a2_footprint.proofs.Running.{stuck_is}
 use Rattle.a2_promise_certify.specs.Judging.{all_hold}
-use Rattle.a2_promise_certify.specs.Kept.{IsKept, LookAtKnown, code, known_by, moment}
+use Rattle.a2_promise_certify.specs.Kept.{IsKept, AreClausesKnown, code, known_by, moment}
 use Rattle.a2_promise_certify.specs.Everywhere.{IsTried}
 use Rattle.a2_promise_certify.specs.Returning.{AnRtsKeepsAll, returning}
 use Rattle.a2_promise_certify.specs.States.{known_bytes, known_parts, state_of}
@@ -44,16 +44,16 @@ found memory is = ap (λ (byte : ℕ). decoded_or_cause (let f : Fetched = elim 
 in_ram : 0x300 < ram_end
 in_ram = omega arith
 
-looked : (clauses : List Clause) (before behind : Known) (entry exit : Moment) → clauses ≡ [] → LookAtKnown clauses before behind entry exit
-looked clauses before behind entry exit none = subst (λ some. LookAtKnown some before behind entry exit) (sym none) tt
+looked : (clauses : List Clause) (before following : Known) (entry exit : Moment) → clauses ≡ [] → AreClausesKnown clauses before following entry exit
+looked clauses before following entry exit none = subst (λ some. AreClausesKnown some before following entry exit) (sym none) tt
 
 held_all : (clauses : List Clause) (entry exit : Moment) → clauses ≡ [] → IsTrue (all_hold clauses entry exit)
 held_all clauses entry exit none = subst (λ some. IsTrue (all_hold some entry exit)) (sym none) refl
 
 module _ (memory : Memory) (promise : Promise) (is : ram_byte memory 0x300 ≡ 0x60) (wanted : promise.wanted.items ≡ []) (promised : promise.promised.items ≡ [])
     (number : ℕ) where
-  comes : ComesToRts code (known_parts (returning memory)) (known_bytes (returning memory)) (state_of (returning memory) number) 0
-  unfolding world_at known_behind stores_in rts
+  comes : ReachesRts code (known_parts (returning memory)) (known_bytes (returning memory)) (state_of (returning memory) number) 0
+  unfolding world_at bytes_known_after stores_in rts
   comes = record {
     reads = λ k lt. (let bad : ⊥ = omega (arith, lt) in absurd bad);
     needs = λ k lt. (let bad : ⊥ = omega (arith, lt) in absurd bad);
@@ -69,7 +69,7 @@ module _ (memory : Memory) (promise : Promise) (is : ram_byte memory 0x300 ≡ 0
   }
 
   kept : IsKept (known_bytes (returning memory)) (known_parts (returning memory)) promise 1 (state_of (returning memory) number)
-  unfolding world_at parts_behind stores_in rts comes
+  unfolding world_at parts_known_after stores_in rts comes
   kept = record {
     steps = 0;
     within = omega arith;
@@ -79,8 +79,8 @@ module _ (memory : Memory) (promise : Promise) (is : ram_byte memory 0x300 ≡ 0
     home_off_stack = refl;
     own = λ a stacked own. tt;
     looks = looked promise.promised.items (known_by (known_bytes (returning memory)) (known_parts (returning memory)))
-        (known_by (known_behind code (known_bytes (returning memory)) (state_of (returning memory) number) 0)
-        (parts_behind code (known_parts (returning memory)) (state_of (returning memory) number) 0))
+        (known_by (bytes_known_after code (known_bytes (returning memory)) (state_of (returning memory) number) 0)
+        (parts_known_after code (known_parts (returning memory)) (state_of (returning memory) number) 0))
         (moment (state_of (returning memory) number) (state_of (returning memory) number) 0)
         (moment (state_of (returning memory) number) (world_at code (state_of (returning memory) number) 1) 1) promised;
     ensured = held_all promise.promised.items (moment (state_of (returning memory) number) (state_of (returning memory) number) 0)

@@ -11,14 +11,14 @@ use Rattle.a2_footprint.specs.declared.Part.{Part}
 use Rattle.a2_footprint.specs.Counting.{IsState}
 use Rattle.a2_promise_certify.specs.declared.input.Input.{Input}
 use Rattle.a2_promise_certify.specs.declared.input.Input.TheVariants.{A, Byte}
-use Rattle.a2_promise_certify.specs.But.{IsBut}
-use Rattle.a2_promise_certify.specs.Settling.{AreSettled, ClausesSettle, IsLaid}
+use Rattle.a2_promise_certify.specs.But.{IsEqualExcept}
+use Rattle.a2_promise_certify.specs.Settling.{AreSettled, ClausesSettle, IsSettled}
 use Rattle.a2_promise_certify.specs.States.{has_byte, has_part, holds_part, is_byte, value_in, values_of}
 use Rattle.a2_promise_certify.proofs.But.{input_first}
 
 -- A byte is written.
 pub byte_laid : (clauses : List Clause) (among : List Input) (board new : BusState) (a byte : ℕ) → a < length board.bytes
-    → new ≡ board_access.after_write board a byte → ClausesSettle clauses among a byte → IsLaid clauses among (Byte a) new
+    → new ≡ board_access.after_write board a byte → ClausesSettle clauses among a byte → IsSettled clauses among (Byte a) new
 byte_laid clauses among board new a byte low left settles = record {
   part = λ part. refl;
   byte = λ b is.
@@ -71,8 +71,8 @@ either true w is = inl refl
 either false w is = inr (refl, is)
 
 module _ (clauses : List Clause) (among : List Input) (input : Input) (rest free : List Input) (before mid board : BusState)
-    (but : IsBut (λ a. is_byte a input) board mid) (h : AreSettled clauses among rest free before mid) where
-  changed : IsBut (has_byte (input ∷ rest)) board before
+    (but : IsEqualExcept (λ a. is_byte a input) board mid) (h : AreSettled clauses among rest free before mid) where
+  changed : IsEqualExcept (has_byte (input ∷ rest)) board before
   changed = input_first input rest board mid before h.but but
 
   -- A settled byte of the other inputs stays settled.
@@ -88,7 +88,7 @@ module _ (clauses : List Clause) (among : List Input) (input : Input) (rest free
       go false = h.bytes a is
 
   -- One more input is settled.
-  pub one_settled : IsLaid clauses among input board → AreSettled clauses among (input ∷ rest) free before board
+  pub one_settled : IsSettled clauses among input board → AreSettled clauses among (input ∷ rest) free before board
   one_settled laid = record {
     but = changed;
     bytes = among_more;

@@ -6,7 +6,7 @@ use Rattle.a2_opcode.specs.declared.Instr.{Instr}
 use Rattle.a2_opcode.specs.Encoding.{IsFetchedFrom, Shows}
 use Rattle.a2_opcode.specs.Table.{length_of}
 use Rattle.a2_bus.specs.Memory.{ram_end}
-use Rattle.a2_promise_certify.specs.Walking.{StandsAt}
+use Rattle.a2_promise_certify.specs.Walking.{IsInstructionAt}
 
 get_take : {X : Type 0} (n : ℕ) (xs : List X) (k : ℕ) → k < length (take n xs) → slice_get (take n xs) k ≡ slice_get xs k
 get_take zero xs k lt = let bad : ⊥ = omega (arith, lt) in absurd bad
@@ -37,7 +37,7 @@ module _ (pc : ℕ) (bytes : List ℕ) (size : length bytes ≡ ram_end) (a b c 
 
   pub standing : (found : Option Instr) → IfSome found (λ i. length_of i.mode ≤ 3)
       → IfSome found (λ i. IsFetchedFrom i pc (take (length_of i.mode) (a ∷ b ∷ c ∷ [])))
-      → IfSome found (λ i. StandsAt i pc bytes)
+      → IfSome found (λ i. IsInstructionAt i pc bytes)
   standing None whole from = whole
   standing (Some i) whole from =
       let at = from (slice_get bytes) (shows (length_of i.mode) whole) in

@@ -18,12 +18,12 @@ use Rattle.a2_promise_certify.specs.declared.input.Input.TheVariants.{A, X, Y, C
 use Rattle.a2_promise_certify.specs.States.{Trial, Enters, has_byte, has_part, holds_part, known_bytes, known_parts, value_in, with_value, with_values}
 
 -- what setting inputs leaves unchanged
-pub record Frame (before behind : World) : Type 0 where
-  pub s : behind.registers.s ≡ before.registers.s
-  pub pc : behind.registers.pc ≡ before.registers.pc
-  pub cycles : behind.cycles ≡ before.cycles
-  pub devices : behind.memory.devices ≡ before.memory.devices
-  pub pages : Pages before.memory → Pages behind.memory
+pub record Frame (before following : World) : Type 0 where
+  pub s : following.registers.s ≡ before.registers.s
+  pub pc : following.registers.pc ≡ before.registers.pc
+  pub cycles : following.cycles ≡ before.cycles
+  pub devices : following.memory.devices ≡ before.memory.devices
+  pub pages : Pages before.memory → Pages following.memory
 
 frame : (input : Input) (value : ℕ) (w : World) → Frame w (with_value input value w)
 frame (Byte a) value w = record {

@@ -17,15 +17,15 @@ use Rattle.a2_footprint.specs.declared.Part.{Part}
 use Rattle.a2_footprint.specs.declared.Part.TheVariants.{D as part_d}
 use Rattle.a2_footprint.specs.Counting.{IsState, state_at, states_of}
 use Rattle.a2_footprint.specs.Parts.{is_part}
-use Rattle.a2_footprint.specs.Turned.{in_stack}
+use Rattle.a2_footprint.specs.RotatedStack.{in_stack}
 use Rattle.a2_promise_certify.specs.declared.one_state.Setup.{Setup}
 use Rattle.a2_promise_certify.specs.declared.input.Input.{Input}
 use Rattle.a2_promise_certify.specs.declared.input.Input.TheVariants.{Byte}
 use Rattle.a2_promise_certify.specs.declared.known_parts.KnownParts.{KnownParts}
-use Rattle.a2_promise_certify.specs.Certifying.{AreLaid, IsStateTried, may_vary, start_of}
+use Rattle.a2_promise_certify.specs.Certifying.{AreMarkedWhere, IsStateTried, may_vary, start_of}
 use Rattle.a2_promise_certify.specs.Entering.{IsKeptEverywhere, laid}
 use Rattle.a2_promise_certify.specs.Everywhere.{HoldsInEveryState, IsTried, PromisesHoldEverywhere}
-use Rattle.a2_promise_certify.specs.Kept.{IsKept, IsRequired, LookAtKnown, bytes_of, known_by, moment}
+use Rattle.a2_promise_certify.specs.Kept.{IsKept, IsRequired, AreClausesKnown, bytes_of, known_by, moment}
 use Rattle.a2_promise_certify.specs.Settling.{AreBytes, AreSettled}
 use Rattle.a2_promise_certify.specs.States.{Trial, Enters, has_byte, has_part, is_byte, known_bytes, known_parts, state_of, value_in, values_of, with_s, with_values}
 use Rattle.a2_promise_certify.specs.Walking.{is_set, knows_part, no_parts}
@@ -75,8 +75,8 @@ no_input (Byte b ∷ rest) a all out =
 no_input (input ∷ rest) a all out = no_input rest a (both (may_vary input) (list_all may_vary rest) all).1 out
 
 behind_ram : (inputs : List Input) (a : ℕ) → IsTrue (list_all may_vary inputs) → ram_end ≤ a → has_byte inputs a ≡ false
-behind_ram inputs a all behind =
-    let e : nat_lt a ram_end ≡ false = grind (arith, nat_tests, behind) in no_input inputs a all (ap (λ v. v && not (in_stack a)) e)
+behind_ram inputs a all following =
+    let e : nat_lt a ram_end ≡ false = grind (arith, nat_tests, following) in no_input inputs a all (ap (λ v. v && not (in_stack a)) e)
 
 off_stack : (inputs : List Input) (a : ℕ) → IsTrue (list_all may_vary inputs) → IsTrue (has_byte inputs a) → in_stack a ≡ false
 off_stack inputs a all is = go (in_stack a) refl
@@ -92,7 +92,7 @@ off_stack inputs a all is = go (in_stack a) refl
 no_mark : (known : List Bool) (a : ℕ) → length known ≤ a → is_set known a ≡ false
 no_mark [] a le = refl
 no_mark (x ∷ known) zero le = let bad : ⊥ = omega (arith, le) in absurd bad
-no_mark (x ∷ known) (suc a) le = let behind : length known ≤ a = omega (arith, le) in no_mark known a behind
+no_mark (x ∷ known) (suc a) le = let following : length known ≤ a = omega (arith, le) in no_mark known a following
 
 and_not : (v w : Bool) → IsTrue (v && not w) → IsTrue v × (w ≡ false)
 and_not true true bad = absurd (true≢false (sym bad))
@@ -119,7 +119,7 @@ module _ (program : ℕ → Option ℕ) (known : List Bool) (parts : KnownParts)
     (image : IsImage program) (in_ram : IsTrue (list_all may_vary inputs))
     (first_size : length first.bytes ≡ ram_end) (memory : memory_of first ≡ start_memory program [])
     (settled : AreSettled promise.wanted.items inputs inputs free first base)
-    (marks : AreLaid (λ a. (list_any (is_byte a) inputs || is_some (program a)) && not (in_stack a)) known ram_end)
+    (marks : AreMarkedWhere (λ a. (list_any (is_byte a) inputs || is_some (program a)) && not (in_stack a)) known ram_end)
     (registers : (part : Part) → knows_part parts part ≡ (has_part inputs part || knows_part no_parts part)) where
   -- an input or a byte of the program, outside the stack's page
   abbrev is_there : ℕ → Bool
@@ -135,7 +135,7 @@ module _ (program : ℕ → Option ℕ) (known : List Bool) (parts : KnownParts)
 
   abbrev Both : (ℕ → Bool) → (Part → Bool) → World → Type 0
   Both bytes some w =
-      LookAtKnown promise.wanted.items (known_by bytes some) (known_by bytes some) (moment w w 0) (moment w w 0)
+      AreClausesKnown promise.wanted.items (known_by bytes some) (known_by bytes some) (moment w w 0) (moment w w 0)
       × (IsRequired promise w → IsKept bytes some promise most w)
 
   size : length base.bytes ≡ ram_end
@@ -143,19 +143,19 @@ module _ (program : ℕ → Option ℕ) (known : List Bool) (parts : KnownParts)
 
   not_there : (a : ℕ) (found : Option ℕ) → IfSome found (λ byte. (a < ram_end) × (byte < 256)) → ram_end ≤ a → false ≡ is_some found
   not_there a None _ _ = refl
-  not_there a (Some byte) low behind = let bad : ⊥ = omega (arith, low.0, behind) in absurd bad
+  not_there a (Some byte) low following = let bad : ⊥ = omega (arith, low.0, following) in absurd bad
 
   none_behind : (a : ℕ) → ram_end ≤ a → false ≡ is_there a
-  none_behind a behind =
+  none_behind a following =
       ap (λ v. v && not (in_stack a))
-      (not_there a (program a) (image a) behind ∙ ap (λ v. v || is_some (program a)) (sym (behind_ram inputs a in_ram behind)))
+      (not_there a (program a) (image a) following ∙ ap (λ v. v || is_some (program a)) (sym (behind_ram inputs a in_ram following)))
 
   marked_all : (a : ℕ) → is_set known a ≡ is_there a
   marked_all a = go (cases_lt a ram_end)
     where
       go : (a < ram_end) ⊎ (ram_end ≤ a) → is_set known a ≡ is_there a
       go (inl low) = marks.marks a low ∙ ap (λ v. (v || is_some (program a)) && not (in_stack a)) (among inputs a)
-      go (inr behind) = no_mark known a (subst (λ n. n ≤ a) (sym marks.size) behind) ∙ none_behind a behind
+      go (inr following) = no_mark known a (subst (λ n. n ≤ a) (sym marks.size) following) ∙ none_behind a following
 
   free_there : (a : ℕ) → IsTrue (has_byte free a) → IsTrue (is_there a)
   free_there a is =
@@ -214,7 +214,7 @@ module _ (program : ℕ → Option ℕ) (known : List Bool) (parts : KnownParts)
         laid_there = (and_not (has_byte inputs a || is_some (program a)) (in_stack a) here.0).0
 
         go : (a < ram_end) ⊎ (ram_end ≤ a) → (v : Bool) → has_byte inputs a ≡ v → ram_byte (memory_of base) a ≡ ram_byte world.memory a
-        go (inr behind) v e = absurd (true≢false (sym here.0 ∙ sym (none_behind a behind)))
+        go (inr following) v e = absurd (true≢false (sym here.0 ∙ sym (none_behind a following)))
         go (inl low) true e = settled_as a low e here.1
         go (inl low) false e = as_laid a low e (sym (ap (λ v. v || is_some (program a)) e) ∙ laid_there)
 

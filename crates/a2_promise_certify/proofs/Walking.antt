@@ -18,15 +18,15 @@ use Rattle.a2_effect.specs.Registers.{Registers}
 use Rattle.a2_cpu.specs.Stores.{stores_of}
 use Rattle.a2_cpu.specs.StepStores.{none_if, stores_at}
 use Rattle.a2_cpu.specs.GuardedBusStep.{guarded_bus_step}
-use Rattle.a2_cpu.specs.View.{guarded_answer_of, left_by}
+use Rattle.a2_cpu.specs.View.{guarded_answer_of, state_left_by}
 use Rattle.a2_effect.specs.Instruction.{state_of}
 use Rattle.a2_cpu.specs.declared.GuardedStep.TheVariants as answer
 use Rattle.a2_services.specs.Services.{service_at}
 use Rattle.a2_services.specs.World.{World, world_of}
 use Rattle.a2_machine.specs.declared.causes.Cause.{Cause}
-use Rattle.a2_machine.specs.Meaning.{Decoded, cause_of_refusal, found_at_pc}
+use Rattle.a2_machine.specs.Meaning.{Decoded, cause_of_cpu_error, found_at_pc}
 use Rattle.a2_machine.specs.ByteRun.{decoded_or_cause}
-use Rattle.a2_machine.specs.Outcome.{IsStepMade}
+use Rattle.a2_machine.specs.Outcome.{IsStepExecuted}
 use Rattle.a2_machine.proofs.Outcomes.{fetched-world, found-admitted, instruction_step, no_return, no_service, stores-world}
 use Rattle.a2_footprint.specs.declared.Part.{Part}
 use Rattle.a2_footprint.specs.InstructionParts.{mode_needs, needs, sets_parts}
@@ -37,12 +37,12 @@ use Rattle.a2_footprint.specs.Reads.{Knows}
 use Rattle.a2_footprint.specs.Runs.{found_reads, found_stores, step_reads, step_stores}
 use Rattle.a2_footprint.specs.Uses.{found_needs, found_sets}
 use Rattle.a2_footprint.specs.Services.{is_keyless}
-use Rattle.a2_footprint.specs.Turned.{FoundOffStack, IsOffStack, StepIsOffStack, in_stack, moves_s, operand_uses}
+use Rattle.a2_footprint.specs.RotatedStack.{FoundOffStack, IsOffStack, StepIsOffStack, in_stack, moves_s, operand_uses}
 use Rattle.a2_footprint.proofs.Boards.{boards, same_place}
 use Rattle.a2_footprint.proofs.Fetching.{steps_by_bytes}
 use Rattle.a2_footprint.proofs.Running.{needs_at, reads_at, sets_at, stores_at as stored_by, stuck_is}
 use Rattle.a2_promise_certify.specs.Kept.{code}
-use Rattle.a2_promise_certify.specs.Walking.{IsStep, AreMarked, StandsAt, known_now, knows_part}
+use Rattle.a2_promise_certify.specs.Walking.{IsStep, AreMarked, IsInstructionAt, known_now, knows_part}
 use Rattle.a2_promise.specs.declared.promises.Changes.{Changes}
 use Rattle.a2_promise_certify.specs.declared.known_parts.KnownParts.{KnownParts}
 
@@ -87,16 +87,16 @@ addresses_of : (show : ℕ → Option ℕ) (at : ℕ) (row : Row) (value : ℕ) 
 unfolding fetched
 addresses_of show at row value e = go (show at) e
   where
-    behind : (r : Row) (operand : Option (List ℕ))
+    following : (r : Row) (operand : Option (List ℕ))
         → (let f : Fetched = elim operand [ None ↦ no_byte | Some some ↦ instruction r (value_of r.mode at some) ] in f) ≡ instruction row value
         → addresses_from (at + 1) (length_of r.mode - 1) ≡ addresses_from (at + 1) (length_of row.mode - 1)
-    behind r None e = cc
-    behind r (Some some) e = ap (λ r. addresses_from (at + 1) (length_of r.mode - 1)) (same_row r row (value_of r.mode at some) value e)
+    following r None e = cc
+    following r (Some some) e = ap (λ r. addresses_from (at + 1) (length_of r.mode - 1)) (same_row r row (value_of r.mode at some) value e)
 
     found : (r : Option Row) → by_row show at r ≡ instruction row value
         → (elim r [ None ↦ [] | Some row ↦ addresses_from (at + 1) (length_of row.mode - 1) ]) ≡ addresses_from (at + 1) (length_of row.mode - 1)
     found None e = cc
-    found (Some r) e = behind r (bytes_from show (at + 1) (length_of r.mode - 1)) e
+    found (Some r) e = following r (bytes_from show (at + 1) (length_of r.mode - 1)) e
 
     go : (byte : Option ℕ) → by_opcode show at byte ≡ instruction row value
         → operand_addresses at byte ≡ addresses_from (at + 1) (length_of row.mode - 1)
@@ -104,11 +104,11 @@ addresses_of show at row value e = go (show at) e
     go (Some opcode) e = found (row_of opcode) e
 
 refused_not : (why : Option Refusal) (cause : Option Cause)
-    → (let c : Option Cause = elim why [ Some w ↦ Some (cause_of_refusal w) | None ↦ cause ] in c) ≡ None → why ≡ None
+    → (let c : Option Cause = elim why [ Some w ↦ Some (cause_of_cpu_error w) | None ↦ cause ] in c) ≡ None → why ≡ None
 refused_not None cause e = refl
 refused_not (Some w) cause e = cc
 
-module _ (instr : Instr) (registers : Registers) (bus : BusState) (size : length bus.bytes ≡ ram_end) (stands : StandsAt instr registers.pc bus.bytes) where
+module _ (instr : Instr) (registers : Registers) (bus : BusState) (size : length bus.bytes ≡ ram_end) (stands : IsInstructionAt instr registers.pc bus.bytes) where
   pub low : registers.pc < ram_end
   low = omega (arith, stands.low)
 
@@ -146,8 +146,8 @@ module _ (instr : Instr) (registers : Registers) (bus : BusState) (size : length
       (targets : List ℕ) (written : targets ≡ stores_at board_access (fetched (slice_get bus.bytes) registers.pc) (state_of registers bus))
       (marked : AreMarked stored new_stored changes targets)
       (told : answer.Next cycles ≡ guarded_answer_of (guarded_bus_step (is_among []) board_access (state_of registers bus)))
-      (left_registers : new_registers ≡ (left_by (guarded_bus_step (is_among []) board_access (state_of registers bus)) (state_of registers bus)).registers)
-      (left_bus : new_bus ≡ (left_by (guarded_bus_step (is_among []) board_access (state_of registers bus)) (state_of registers bus)).memory)
+      (left_registers : new_registers ≡ (state_left_by (guarded_bus_step (is_among []) board_access (state_of registers bus)) (state_of registers bus)).registers)
+      (left_bus : new_bus ≡ (state_left_by (guarded_bus_step (is_among []) board_access (state_of registers bus)) (state_of registers bus)).memory)
       (learned : (part : Part) → knows_part new_parts part ≡ with_parts (sets_parts instr.mnemonic) (knows_part parts) part) where
     pointer : Knows (known_now known stored) (pointer_reads instr.mode instr.value registers)
     pointer = knows_all (known_now known stored) (pointer_reads instr.mode instr.value registers) (both_true _ _ looked).0
@@ -165,7 +165,7 @@ module _ (instr : Instr) (registers : Registers) (bus : BusState) (size : length
     mode : Knows (knows_part parts) (mode_needs instr.mode)
     mode = knows_all (knows_part parts) (mode_needs instr.mode) (both_true (list_all (knows_part parts) (needs instr.mnemonic)) _ used).1
 
-    made : IsStepMade None registers bus new_registers new_bus cycles
+    made : IsStepExecuted None registers bus new_registers new_bus cycles
     made = instruction_step None registers bus size low refl new_registers new_bus cycles told left_registers left_bus
 
     -- No service is in RAM.

@@ -3,7 +3,7 @@ use Rattle.std.specs.Prelude.{◌≡◌, ℕ, Bool, false, length, slice_index}
 use Rattle.a2_bus.specs.BusState.{BusState}
 
 -- a board equals another, except for the bytes at these addresses
-pub record IsBut (there : ℕ → Bool) (board other : BusState) : Type 0 where
+pub record IsEqualExcept (there : ℕ → Bool) (board other : BusState) : Type 0 where
   pub size : length board.bytes ≡ length other.bytes
   pub bytes : (a : ℕ) → there a ≡ false → slice_index board.bytes a ≡ slice_index other.bytes a
   pub devices : board.devices ≡ other.devices

@@ -10,14 +10,14 @@ use Rattle.a2_promise.specs.declared.promises.Promise.{Promise}
 use Rattle.a2_footprint.specs.declared.Part.{Part}
 use Rattle.a2_footprint.specs.Counting.{state_at}
 use Rattle.a2_footprint.specs.Parts.{held}
-use Rattle.a2_footprint.specs.Turned.{in_stack}
+use Rattle.a2_footprint.specs.RotatedStack.{in_stack}
 use Rattle.a2_promise_certify.specs.declared.one_state.Setup.{Setup}
 use Rattle.a2_promise_certify.specs.declared.input.Input.{Input}
 use Rattle.a2_promise_certify.specs.declared.input.Input.TheVariants.{Byte}
 use Rattle.a2_promise_certify.specs.declared.known_parts.KnownParts.{KnownParts}
 use Rattle.a2_promise_certify.specs.declared.walk.Walk.{Walk}
-use Rattle.a2_promise_certify.specs.But.{IsBut}
-use Rattle.a2_promise_certify.specs.Kept.{IsKept, IsRequired, LookAtKnown, known_by, may_change, moment}
+use Rattle.a2_promise_certify.specs.But.{IsEqualExcept}
+use Rattle.a2_promise_certify.specs.Kept.{IsKept, IsRequired, AreClausesKnown, known_by, may_change, moment}
 use Rattle.a2_promise_certify.specs.States.{has_byte, values_of, with_values}
 use Rattle.a2_promise_certify.specs.Walking.{is_set, knows_part}
 
@@ -31,7 +31,7 @@ start_of setup number =
 -- inputs, and nothing is marked.
 pub record IsReady (base : BusState) (inputs : List Input) (before space : BusState) (stored : List Bool) : Type 0 where
   pub before_is : before ≡ base
-  pub space_is : IsBut (has_byte inputs) space base
+  pub space_is : IsEqualExcept (has_byte inputs) space base
   pub clear : (a : ℕ) → is_set stored a ≡ false
 
 -- a state before a routine, from which the walk sets out
@@ -45,14 +45,14 @@ pub record IsEntered (start : World) (parts : KnownParts) (before : BusState) (w
 
 -- A register that may not change is not known afterwards, or it was known and is equal.
 abbrev pub AreRegistersKept : Changes → KnownParts → KnownParts → Registers → Registers → Type 0
-AreRegistersKept changes parts parts_behind before behind =
+AreRegistersKept changes parts parts_known_after before following =
     (part : Part) → may_change changes part ≡ false
-    → (knows_part parts_behind part ≡ false) ⊎ (IsTrue (knows_part parts part) × (held part behind ≡ held part before))
+    → (knows_part parts_known_after part ≡ false) ⊎ (IsTrue (knows_part parts part) × (held part following ≡ held part before))
 
 -- whether the state meets the promise's requirements depends on nothing unknown, and if it meets them, the promise is
 -- kept in it
 pub record IsStateTried (known : List Bool) (parts : KnownParts) (promise : Promise) (most : ℕ) (start : World) : Type 0 where
-  pub looks : LookAtKnown promise.wanted.items (known_by (is_set known) (knows_part parts))
+  pub looks : AreClausesKnown promise.wanted.items (known_by (is_set known) (knows_part parts))
       (known_by (is_set known) (knows_part parts)) (moment start start 0) (moment start start 0)
   pub kept : IsRequired promise start → IsKept (is_set known) (knows_part parts) promise most start
 
@@ -62,7 +62,7 @@ may_vary (Byte a) = nat_lt a ram_end && not (in_stack a)
 may_vary _ = true
 
 -- the first addresses of RAM are marked, up to a count, where a test is true
-pub record AreLaid (test : ℕ → Bool) (known : List Bool) (count : ℕ) : Type 0 where
+pub record AreMarkedWhere (test : ℕ → Bool) (known : List Bool) (count : ℕ) : Type 0 where
   pub size : length known ≡ count
   pub within : count ≤ ram_end
   pub marks : (a : ℕ) → a < count → is_set known a ≡ test a

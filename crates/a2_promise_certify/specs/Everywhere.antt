@@ -4,14 +4,14 @@ use Rattle.a2_page.specs.Grid.{IsGrid}
 use Rattle.a2_services.specs.World.{World}
 use Rattle.a2_promise.specs.declared.promises.Promise.{Promise}
 use Rattle.a2_footprint.specs.Counting.{states_of}
-use Rattle.a2_footprint.specs.Turned.{in_stack}
+use Rattle.a2_footprint.specs.RotatedStack.{in_stack}
 use Rattle.a2_promise_certify.specs.States.{Trial, Enters, known_bytes, known_parts, state_of, values_of, with_s}
-use Rattle.a2_promise_certify.specs.Kept.{IsKept, IsRequired, Keeps, LookAtKnown, known_by, moment}
+use Rattle.a2_promise_certify.specs.Kept.{IsKept, IsRequired, Keeps, AreClausesKnown, known_by, moment}
 
 -- whether the state meets the promise's requirements depends on nothing unknown, and if it meets them, the promise is
 -- kept in it
 pub record IsTried (trial : Trial) (promise : Promise) (limit : ℕ) (start : World) : Type 0 where
-  pub looks : LookAtKnown promise.wanted.items (known_by (known_bytes trial) (known_parts trial)) (known_by (known_bytes trial) (known_parts trial))
+  pub looks : AreClausesKnown promise.wanted.items (known_by (known_bytes trial) (known_parts trial)) (known_by (known_bytes trial) (known_parts trial))
       (moment start start 0) (moment start start 0)
   pub kept : IsRequired promise start → IsKept (known_bytes trial) (known_parts trial) promise limit start
 

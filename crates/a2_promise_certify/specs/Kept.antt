@@ -12,16 +12,16 @@ use Rattle.a2_promise.specs.declared.expr.Atom.TheVariants as atom
 use Rattle.a2_promise.specs.declared.promises.Changes.{Changes}
 use Rattle.a2_promise.specs.declared.promises.Clause.{Clause}
 use Rattle.a2_promise.specs.declared.promises.Promise.{Promise}
-use Rattle.a2_promise.specs.Looks.{Known, Knows}
+use Rattle.a2_promise.specs.ReadsOfValues.{Known, Knows}
 use Rattle.a2_promise.specs.Values.{Moment}
 use Rattle.a2_footprint.specs.declared.Part.{Part}
 use Rattle.a2_footprint.specs.declared.Part.TheVariants.{A as part_a, X as part_x, Y as part_y, N as part_n, V as part_v, D as part_d, I as part_i, Z as part_z, C as part_c}
-use Rattle.a2_footprint.specs.Calls.{ComesToRts, GoesBack}
+use Rattle.a2_footprint.specs.Calls.{ReachesRts, GoesBack}
 use Rattle.a2_footprint.specs.Fetches.{addresses_from}
 use Rattle.a2_footprint.specs.Parts.{held}
-use Rattle.a2_footprint.specs.Runs.{known_behind, stores_in}
-use Rattle.a2_footprint.specs.Turned.{RunIsOffStack, in_stack}
-use Rattle.a2_footprint.specs.Uses.{parts_behind}
+use Rattle.a2_footprint.specs.Runs.{bytes_known_after, stores_in}
+use Rattle.a2_footprint.specs.RotatedStack.{RunIsOffStack, in_stack}
+use Rattle.a2_footprint.specs.Uses.{parts_known_after}
 use Rattle.a2_promise_certify.specs.Judging.{all_hold, no_names}
 
 -- the code is whatever is in memory
@@ -68,10 +68,10 @@ knows_atom known _ = true
 abbrev pub known_by : (ℕ → Bool) → (Part → Bool) → Known
 known_by bytes parts = record { bytes = λ a. not (in_stack a) && bytes a; atoms = knows_atom parts }
 
-abbrev pub LookAtKnown : List Clause → Known → Known → Moment → Moment → Type 0
-LookAtKnown [] before behind entry exit = Unit {0}
-LookAtKnown (clause ∷ rest) before behind entry exit =
-    Knows clause.expr before behind entry exit no_names × LookAtKnown rest before behind entry exit
+abbrev pub AreClausesKnown : List Clause → Known → Known → Moment → Moment → Type 0
+AreClausesKnown [] before following entry exit = Unit {0}
+AreClausesKnown (clause ∷ rest) before following entry exit =
+    Knows clause.expr before following entry exit no_names × AreClausesKnown rest before following entry exit
 
 -- what the routine may change: the registers and bytes that `changes` names, and the 126 bytes of the stack from S
 -- down, below the return address
@@ -93,17 +93,17 @@ is_own s a = in_stack a && nat_lt ((s + 0x200 - a) % 256) 126
 pub record IsKept (bytes : ℕ → Bool) (parts : Part → Bool) (promise : Promise) (limit : ℕ) (start : World) : Type 0 where
   pub steps : ℕ
   pub within : suc steps ≤ limit
-  pub comes : ComesToRts code parts bytes start steps
+  pub comes : ReachesRts code parts bytes start steps
   pub implied : comes.rts.row.mode ≡ Implied
   pub off_stack : RunIsOffStack start steps
   pub home_off_stack : list_any in_stack (addresses_from (world_at code start steps).registers.pc 3) ≡ false
   pub own : (a : ℕ) → in_stack a ≡ true → is_own start.registers.s a ≡ false → IsNotIn a (stores_in code start steps)
-  pub looks : LookAtKnown promise.promised.items (known_by bytes parts)
-      (known_by (known_behind code bytes start steps) (parts_behind code parts start steps))
+  pub looks : AreClausesKnown promise.promised.items (known_by bytes parts)
+      (known_by (bytes_known_after code bytes start steps) (parts_known_after code parts start steps))
       (moment start start 0) (moment start (world_at code start (suc steps)) (suc steps))
   pub ensured : IsEnsured promise start (suc steps)
   pub registers : (part : Part) → may_change promise.changes part ≡ false
-      → (parts_behind code parts start steps part ≡ false)
+      → (parts_known_after code parts start steps part ≡ false)
       ⊎ (IsTrue (parts part) × (held part (world_at code start steps).registers ≡ held part start.registers))
   pub rest : (a : ℕ) → a < ram_end → in_stack a ≡ false → may_store promise.changes a ≡ false
       → IsNotIn a (stores_in code start steps)

@@ -1,6 +1,6 @@
 -- What is known of a state, for the contracts of the crate's private functions. No public clause cites this file.
-use Rattle.a2_promise.specs.Looks.{Known}
-use Rattle.a2_promise_certify.specs.declared.clause_looks.View.{View}
+use Rattle.a2_promise.specs.ReadsOfValues.{Known}
+use Rattle.a2_promise_certify.specs.declared.clause_knowledge.View.{View}
 use Rattle.a2_promise_certify.specs.Kept.{known_by}
 use Rattle.a2_promise_certify.specs.Walking.{known_now, knows_part}
 

@@ -8,7 +8,7 @@ use Rattle.a2_promise.specs.declared.promises.Clause.{Clause}
 use Rattle.a2_footprint.specs.declared.Part.{Part}
 use Rattle.a2_footprint.specs.Counting.{IsState}
 use Rattle.a2_promise_certify.specs.declared.input.Input.{Input}
-use Rattle.a2_promise_certify.specs.But.{IsBut}
+use Rattle.a2_promise_certify.specs.But.{IsEqualExcept}
 use Rattle.a2_promise_certify.specs.Judging.{all_hold}
 use Rattle.a2_promise_certify.specs.States.{has_byte, has_part, holds_part, is_byte, value_in, values_of}
 
@@ -25,14 +25,14 @@ abbrev pub ClausesSettle : List Clause → List Input → ℕ → ℕ → Type 0
 ClausesSettle clauses inputs a byte = Settles (λ m. all_hold clauses m m) inputs a byte
 
 -- an input is a byte that clauses settle, and a board has its value
-pub record IsLaid (clauses : List Clause) (among : List Input) (input : Input) (board : BusState) : Type 0 where
+pub record IsSettled (clauses : List Clause) (among : List Input) (input : Input) (board : BusState) : Type 0 where
   pub part : (part : Part) → holds_part input part ≡ false
   pub byte : (a : ℕ) → IsTrue (is_byte a input) → ClausesSettle clauses among a (slice_index board.bytes a)
 
 -- Some of the inputs are free. Each of the others is a byte that clauses settle, and the board is unchanged except
 -- for these.
 pub record AreSettled (clauses : List Clause) (among inputs free : List Input) (before board : BusState) : Type 0 where
-  pub but : IsBut (has_byte inputs) board before
+  pub but : IsEqualExcept (has_byte inputs) board before
   pub bytes : (a : ℕ) → IsTrue (has_byte free a) → IsTrue (has_byte inputs a)
   pub parts : (part : Part) → has_part free part ≡ has_part inputs part
   pub values : (world : World) → IsState (map values_of inputs) (map (value_in world) inputs)

@@ -19,13 +19,13 @@ use Rattle.a2_machine.specs.Meaning.{next, world_at}
 use Rattle.a2_promise.specs.declared.promises.Changes.{Changes}
 use Rattle.a2_footprint.specs.declared.Part.{Part}
 use Rattle.a2_footprint.specs.declared.Part.TheVariants.{A as part_a, X as part_x, Y as part_y, N as part_n, V as part_v, D as part_d, I as part_i, Z as part_z, C as part_c}
-use Rattle.a2_footprint.specs.Calls.{ComesToRts}
+use Rattle.a2_footprint.specs.Calls.{ReachesRts}
 use Rattle.a2_footprint.specs.Fetches.{addresses_from}
 use Rattle.a2_footprint.specs.Parts.{with_parts}
 use Rattle.a2_footprint.specs.Reads.{Knows, with_bytes}
-use Rattle.a2_footprint.specs.Runs.{RunReads, StepReads, known_behind, step_stores}
-use Rattle.a2_footprint.specs.Turned.{RunIsOffStack, StepIsOffStack, in_stack}
-use Rattle.a2_footprint.specs.Uses.{RunNeeds, step_needs, step_sets, parts_behind}
+use Rattle.a2_footprint.specs.Runs.{RunReads, StepReads, bytes_known_after, step_stores}
+use Rattle.a2_footprint.specs.RotatedStack.{RunIsOffStack, StepIsOffStack, in_stack}
+use Rattle.a2_footprint.specs.Uses.{RunNeeds, step_needs, step_sets, parts_known_after}
 use Rattle.a2_promise_certify.specs.declared.known_parts.KnownParts.{KnownParts}
 use Rattle.a2_promise_certify.specs.declared.walk.Walk.{Walk}
 use Rattle.a2_promise_certify.specs.Kept.{code, is_own, may_store}
@@ -64,7 +64,7 @@ with_part part_z parts = record parts { z = true }
 with_part part_c parts = record parts { c = true }
 
 -- the instruction is at an address
-pub record StandsAt (instr : Instr) (at : ℕ) (bytes : List ℕ) : Type 0 where
+pub record IsInstructionAt (instr : Instr) (at : ℕ) (bytes : List ℕ) : Type 0 where
   pub low : at < ram_end
   pub size : length bytes ≡ ram_end
   pub row : Row
@@ -80,14 +80,14 @@ abbrev pub MayStore : Changes → ℕ → Type 0
 MayStore changes a = (is_allowed changes a ≡ true) × (a ≢ 0x1FE) × (a ≢ 0x1FF)
 
 -- whether the mode is enough to tell that an operand is not in memory or is in page 0
-abbrev pub is_beside : Mode → ℕ → Bool
-is_beside Implied value = true
-is_beside Accumulator value = true
-is_beside Immediate value = true
-is_beside ZeroPage value = nat_lt value 256
-is_beside ZeroPageX value = true
-is_beside ZeroPageY value = true
-is_beside _ value = false
+abbrev pub is_beside_stack_page : Mode → ℕ → Bool
+is_beside_stack_page Implied value = true
+is_beside_stack_page Accumulator value = true
+is_beside_stack_page Immediate value = true
+is_beside_stack_page ZeroPage value = nat_lt value 256
+is_beside_stack_page ZeroPageX value = true
+is_beside_stack_page ZeroPageY value = true
+is_beside_stack_page _ value = false
 
 -- addresses are marked, all of which may be stored at
 pub record AreMarked (old new : List Bool) (changes : Changes) (addresses : List ℕ) : Type 0 where
@@ -126,15 +126,15 @@ pub record IsWalk (known marks : List Bool) (first_parts last_parts : KnownParts
   pub reads : RunReads code (is_set known) (world_of first first_bus 0) steps
   pub needs : RunNeeds code (knows_part first_parts) (world_of first first_bus 0) steps
   pub off_stack : RunIsOffStack (world_of first first_bus 0) steps
-  pub stored : (a : ℕ) → is_set marks a ≡ known_behind code (λ b. false) (world_of first first_bus 0) steps a
-  pub parts : (part : Part) → knows_part last_parts part ≡ parts_behind code (knows_part first_parts) (world_of first first_bus 0) steps part
+  pub stored : (a : ℕ) → is_set marks a ≡ bytes_known_after code (λ b. false) (world_of first first_bus 0) steps a
+  pub parts : (part : Part) → knows_part last_parts part ≡ parts_known_after code (knows_part first_parts) (world_of first first_bus 0) steps part
   pub allowed : (a : ℕ) → IsTrue (is_set marks a) → MayStore changes a
 
 -- The steps lead to the routine's own RTS.
-pub record IsHome (known marks : List Bool) (first_parts last_parts : KnownParts) (changes : Changes)
+pub record ReachesOwnRts (known marks : List Bool) (first_parts last_parts : KnownParts) (changes : Changes)
     (first : Registers) (first_bus : BusState) (registers : Registers) (bus : BusState) (cycles steps : ℕ) : Type 0 where
   pub walk : IsWalk known marks first_parts last_parts changes first first_bus registers bus cycles steps
-  pub comes : ComesToRts code (knows_part first_parts) (is_set known) (world_of first first_bus 0) steps
+  pub comes : ReachesRts code (knows_part first_parts) (is_set known) (world_of first first_bus 0) steps
   pub implied : comes.rts.row.mode ≡ Implied
   pub s : first.s ≡ 0xFD
   pub home_off_stack : list_any in_stack (addresses_from (world_at code (world_of first first_bus 0) steps).registers.pc 3) ≡ false

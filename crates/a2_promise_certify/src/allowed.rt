@@ -1,7 +1,7 @@
 //! Decides where a routine may store.
 
 ghost use Rattle.std.specs.Prelude.{◌≡◌};
-ghost use Rattle.a2_footprint.specs.Turned.{in_stack};
+ghost use Rattle.a2_footprint.specs.RotatedStack.{in_stack};
 ghost use Rattle.a2_promise_certify.specs.Kept.{is_own, may_store};
 ghost use Rattle.a2_promise_certify.specs.Walking.{is_allowed};
 

@@ -10,7 +10,7 @@ ghost use Rattle.a2_promise_certify.specs.Kept.{bytes_of as ram_bytes_of};
 
 use a2_bus::{AddressSpace, Bus};
 use a2_cpu::Regs;
-use a2_promise::{Bounds, Clause, Sight, value};
+use a2_promise::{Bounds, Clause, StateView, value};
 use std::alloc::Global;
 
 /// The numbers of names outside of a count: no name is bound to a number there.
@@ -27,7 +27,7 @@ pub(crate) fn holds(value: Option<i64>) -> bool
 }
 
 /// Returns whether all clauses hold, given the state in which a routine is entered and one in which it returns.
-pub fn all_hold(clauses: &[Clause], entry: &Sight<Global>, exit: &Sight<Global>) -> bool
+pub fn all_hold(clauses: &[Clause], entry: &StateView<Global>, exit: &StateView<Global>) -> bool
     ensures { result ≡ judging.all_hold clauses.now (moment_of entry.now) (moment_of exit.now) }
 {
     clauses
@@ -41,14 +41,14 @@ pub fn sight_of<'a>(
     space: &'a AddressSpace<Global>,
     cycles: u32,
     steps: u32,
-) -> Sight<'a, Global>
+) -> StateView<'a, Global>
     ensures moment { moment_of result
         ≡ record { registers = registers_of regs.now; bytes = ram_bytes_of (memory_of space.now); cycles = cycles; steps = steps } }
     ensures size { length space.now.bytes ≡ ram_end }
 {
     // Only for the prover, which learns the size of RAM from it.
     let _first = space.peek(0);
-    Sight {
+    StateView {
         regs: *regs,
         space,
         cycles,

@@ -115,7 +115,7 @@ fn down(cursor: Cursor) -> Cursor
 }
 
 // Moves the cursor to the window's left edge, wherever it was, and down.
-fn down_left(cursor: Cursor) -> Cursor
+fn move_to_next_line(cursor: Cursor) -> Cursor
     requires { IsOnScreen cursor }
     ensures cursor { (memory : Memory) (column : ℕ) → IsCursor (record cursor { column = column }) memory
         → IsCursor result (after_return memory) }
@@ -158,7 +158,7 @@ fn on(cursor: Cursor, byte: u8) -> Cursor
     ensures screen { IsOnScreen result }
 {
     if is_at_edge(&cursor) {
-        down_left(cursor)
+        move_to_next_line(cursor)
     } else {
         Cursor {
             column: cursor.column + 1,
@@ -168,13 +168,13 @@ fn on(cursor: Cursor, byte: u8) -> Cursor
 }
 
 /// Returns the window and the cursor after a byte was put unmasked.
-pub(crate) fn behind(byte: u8, cursor: Cursor) -> Cursor
+pub(crate) fn following(byte: u8, cursor: Cursor) -> Cursor
     requires { IsOnScreen cursor }
     ensures cursor { (memory : Memory) → IsCursor cursor memory → IsCursor result (after_put_unmasked byte memory) }
     ensures screen { IsOnScreen result }
 {
     match byte {
-        RETURN => down_left(cursor),
+        RETURN => move_to_next_line(cursor),
         LINE_FEED => down(cursor),
         BACKSPACE => back(cursor),
         _ if is_control(byte) => cursor,

@@ -6,7 +6,7 @@ ghost use Rattle.a2_effect.specs.Live.{live_registers};
 ghost use Rattle.a2_effect.specs.View.{registers_of};
 ghost use Rattle.a2_services.specs.World.{world_of};
 ghost use Rattle.a2_footprint.specs.Counting.{states_of, state_at};
-ghost use Rattle.a2_promise_certify.specs.But.{IsBut};
+ghost use Rattle.a2_promise_certify.specs.But.{IsEqualExcept};
 ghost use Rattle.a2_promise_certify.specs.States.{has_byte, is_byte, values_of, with_value, with_values};
 
 use crate::input::Input;
@@ -52,7 +52,7 @@ pub fn put_register(input: Input, value: u8, live: &mut Live)
 fn put_value(input: Input, value: u8, regs: &mut Regs, space: &mut AddressSpace<Global>) -> bool
     ensures world { IsTrue result → world_of (registers_of regs.new) space.new 0
         ≡ with_value input value (world_of (registers_of regs.old) space.old 0) }
-    ensures rest { IsBut (λ a. is_byte a input) space.new space.old }
+    ensures rest { IsEqualExcept (λ a. is_byte a input) space.new space.old }
 {
     if let Input::Byte(address) = input {
         if address >= RAM_END {
@@ -76,7 +76,7 @@ pub(crate) fn put_state(
 ) -> bool
     ensures world { IsTrue result → world_of (registers_of regs.new) space.new 0
         ≡ with_values inputs.now (state_at (map values_of inputs.now) number) (world_of (registers_of regs.old) space.old 0) }
-    ensures rest { IsBut (has_byte inputs.now) space.new space.old }
+    ensures rest { IsEqualExcept (has_byte inputs.now) space.new space.old }
 {
     let [input, rest @ ..] = inputs else {
         return true;
@@ -88,7 +88,7 @@ pub(crate) fn put_state(
 
 // Copies the byte of an input from another RAM.
 fn put_back_input(input: Input, space: &mut AddressSpace<Global>, other: &AddressSpace<Global>)
-    ensures { (there : ℕ → Bool) → IsBut (λ a. is_byte a input || there a) space.old other.now → IsBut there space.new other.now }
+    ensures { (there : ℕ → Bool) → IsEqualExcept (λ a. is_byte a input || there a) space.old other.now → IsEqualExcept there space.new other.now }
 {
     match input {
         Input::Byte(address) => put_back(address, space, other),
@@ -102,7 +102,7 @@ pub(crate) fn put_back_inputs(
     space: &mut AddressSpace<Global>,
     other: &AddressSpace<Global>,
 )
-    ensures { IsBut (has_byte inputs.now) space.old other.now → space.new ≡ other.now }
+    ensures { IsEqualExcept (has_byte inputs.now) space.old other.now → space.new ≡ other.now }
 {
     for input in inputs {
         put_back_input(*input, space, other);

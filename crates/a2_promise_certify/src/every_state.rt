@@ -6,11 +6,11 @@ ghost use Rattle.a2_hex.specs.Images.{held};
 ghost use Rattle.a2_bus.specs.Memory.{ram_end};
 ghost use Rattle.a2_bus.specs.PowerOn.{first_devices};
 ghost use Rattle.a2_footprint.specs.declared.Part.{Part as DeclaredPart};
-ghost use Rattle.a2_footprint.specs.Turned.{in_stack};
+ghost use Rattle.a2_footprint.specs.RotatedStack.{in_stack};
 ghost use Rattle.a2_promise_certify.specs.States.{has_part, holds_part, is_byte};
 ghost use Rattle.a2_promise_certify.specs.Entering.{IsKeptEverywhere};
 ghost use Rattle.a2_promise_certify.specs.Walking.{knows_part, no_parts};
-ghost use Rattle.a2_promise_certify.specs.Certifying.{AreLaid, may_vary, IsReady, IsStateTried, start_of};
+ghost use Rattle.a2_promise_certify.specs.Certifying.{AreMarkedWhere, may_vary, IsReady, IsStateTried, start_of};
 
 use crate::allowed::is_in_stack;
 use crate::entry_states::{count_states, put_back_inputs};
@@ -115,7 +115,7 @@ fn is_known_at(image: &Image<Global>, inputs: &[Input], address: u16) -> bool
 
 // Returns a mark for each address of RAM, set if the byte there is known at the entry.
 fn known_at(alloc: Global, image: &Image<Global>, inputs: &[Input]) -> Result<Vec<bool>, AllocError>
-    ensures { IfOk result (λ known. AreLaid
+    ensures { IfOk result (λ known. AreMarkedWhere
         (λ a. (list_any (is_byte a) inputs.now || is_some (held image.now a)) && not (in_stack a)) known.items ram_end) }
 {
     let mut known = Vec::new(alloc);

@@ -3,7 +3,7 @@
 ghost use Rattle.a2_promise_certify.specs.Everywhere.{PromisesHoldEverywhere};
 ghost use Rattle.a2_promise_certify.specs.Returning.{AnRtsKeepsAll};
 
-use a2_promise::values_depend_on_looks;
+use a2_promise::values_depend_only_on_reads;
 
 /// A theorem, which does nothing as code: a promise that is kept in each state of its inputs is kept in every world
 /// at the routine's entry that meets its requirements. Neither the routine nor the promise may depend on anything
@@ -11,7 +11,7 @@ use a2_promise::values_depend_on_looks;
 pub fn promises_hold_everywhere()
     ensures { PromisesHoldEverywhere }
 {
-    values_depend_on_looks();
+    values_depend_only_on_reads();
 }
 
 /// A theorem, which does nothing as code: such a promise exists. A routine that is only an RTS keeps the promise that

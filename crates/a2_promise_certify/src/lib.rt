@@ -4,7 +4,7 @@
 #![tactic(auto)]
 
 mod allowed;
-mod clause_looks;
+mod clause_knowledge;
 mod clauses;
 mod cursor;
 mod entry_states;
@@ -32,4 +32,4 @@ pub use one_state::{Setup, is_tried};
 pub use service_reads::{registers_read_by, registers_set_by};
 pub use settled_bytes::{number_of, settled_byte};
 pub use stored::Stored;
-pub use walk::{ENTRY_S, Walk, walk_home};
+pub use walk::{ENTRY_S, Walk, run_to_own_rts};

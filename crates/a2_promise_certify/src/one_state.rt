@@ -8,19 +8,19 @@ ghost use Rattle.a2_effect.specs.View.{registers_of};
 ghost use Rattle.a2_services.specs.World.{world_of};
 ghost use Rattle.a2_machine.specs.Meaning.{next};
 ghost use Rattle.a2_promise.specs.Values.{moment_of};
-ghost use Rattle.a2_promise_certify.specs.But.{IsBut};
+ghost use Rattle.a2_promise_certify.specs.But.{IsEqualExcept};
 ghost use Rattle.a2_promise_certify.specs.Kept.{bytes_of, code, IsKept};
 ghost use Rattle.a2_promise_certify.specs.States.{has_byte};
 ghost use Rattle.a2_promise_certify.specs.Walking.{is_set, knows_part};
 ghost use Rattle.a2_promise_certify.specs.Certifying.{AreRegistersKept, IsEntered, IsReady, IsStateTried, start_of};
 
-use crate::clause_looks::{View, look_at_known};
+use crate::clause_knowledge::{View, are_clauses_known};
 use crate::clauses::{all_hold, sight_of};
 use crate::entry_states::{put_back_inputs, put_state};
 use crate::input::Input;
 use crate::known_parts::KnownParts;
 use crate::stored::Stored;
-use crate::walk::{Walk, walk_home};
+use crate::walk::{Walk, run_to_own_rts};
 use a2_bus::{AddressSpace, Bus};
 use a2_cpu::run::guarded_step;
 use a2_cpu::{GuardedStep, NoProtection, Regs};
@@ -73,7 +73,7 @@ pub(crate) fn enter(
 ) -> bool
     requires { IsReady setup.now.base.now setup.now.inputs.now before.old walk.old.space stored.now }
     ensures entered { IsTrue result → IsEntered (start_of setup.now number) setup.now.parts before.new walk.new stored.now }
-    ensures rest { IsBut (has_byte setup.now.inputs.now) before.new setup.now.base.now }
+    ensures rest { IsEqualExcept (has_byte setup.now.inputs.now) before.new setup.now.base.now }
 {
     let mut regs = Regs::start(setup.promise.address);
     if !put_state(setup.inputs, number, &mut regs, before) {
@@ -92,33 +92,52 @@ fn is_register_kept(
     part: Part,
     may: bool,
     parts: &KnownParts,
-    parts_behind: &KnownParts,
+    parts_known_after: &KnownParts,
     before: u8,
-    behind: u8,
+    following: u8,
 ) -> bool
     ensures { IsTrue result → may ≡ false
-        → (knows_part parts_behind.now part ≡ false) ⊎ (IsTrue (knows_part parts.now part) × (behind ≡ before)) }
+        → (knows_part parts_known_after.now part ≡ false) ⊎ (IsTrue (knows_part parts.now part) × (following ≡ before)) }
 {
-    may || !parts_behind.has(part) || parts.has(part) && before == behind
+    may || !parts_known_after.has(part) || parts.has(part) && before == following
 }
 
 // Returns whether every register is kept.
 fn are_registers_kept(
     changes: &Changes,
     parts: &KnownParts,
-    parts_behind: &KnownParts,
+    parts_known_after: &KnownParts,
     before: &Regs,
-    behind: &Regs,
+    following: &Regs,
 ) -> bool
-    ensures { IsTrue result → AreRegistersKept changes.now parts.now parts_behind.now
-        (registers_of before.now) (registers_of behind.now) }
+    ensures { IsTrue result → AreRegistersKept changes.now parts.now parts_known_after.now
+        (registers_of before.now) (registers_of following.now) }
 {
-    if !is_register_kept(Part::A, changes.a, parts, parts_behind, before.a, behind.a)
-        || !is_register_kept(Part::X, changes.x, parts, parts_behind, before.x, behind.x)
-    {
+    if !is_register_kept(
+        Part::A,
+        changes.a,
+        parts,
+        parts_known_after,
+        before.a,
+        following.a,
+    ) || !is_register_kept(
+        Part::X,
+        changes.x,
+        parts,
+        parts_known_after,
+        before.x,
+        following.x,
+    ) {
         return false;
     }
-    is_register_kept(Part::Y, changes.y, parts, parts_behind, before.y, behind.y)
+    is_register_kept(
+        Part::Y,
+        changes.y,
+        parts,
+        parts_known_after,
+        before.y,
+        following.y,
+    )
 }
 
 // Executes a step and returns the cycles since the entry, or `None` if it is not executed or PC is not in RAM.
@@ -149,11 +168,11 @@ fn is_kept(
         (knows_part setup.now.parts) setup.now.promise.now setup.now.most
         (world_of (registers_of walk.old.regs) walk.old.space 0) }
     ensures rest { IsTrue result → walk.new.space.devices ≡ before.now.devices
-        → IsBut (is_set stored.new) walk.new.space before.now }
+        → IsEqualExcept (is_set stored.new) walk.new.space before.now }
 {
     let changes = &setup.promise.changes;
     let regs = walk.regs;
-    let Some(steps) = walk_home(walk, setup.known, stored, changes, setup.most) else {
+    let Some(steps) = run_to_own_rts(walk, setup.known, stored, changes, setup.most) else {
         return false;
     };
     if !are_registers_kept(changes, &setup.parts, &walk.parts, &regs, &walk.regs) {
@@ -170,7 +189,7 @@ fn is_kept(
         parts: walk.parts,
     };
     let promised = setup.promise.promised.as_slice();
-    look_at_known(promised, &entry, &exit) && all_hold(promised, &entry.sight, &exit.sight)
+    are_clauses_known(promised, &entry, &exit) && all_hold(promised, &entry.sight, &exit.sight)
 }
 
 /// Returns whether a promise is kept in the state before a routine, if that state meets its requirements.
@@ -195,11 +214,11 @@ pub fn is_tried(
     ensures tried { IsTrue result → IsStateTried setup.now.known.now setup.now.parts setup.now.promise.now setup.now.most
         (world_of (registers_of walk.old.regs) walk.old.space 0) }
     ensures rest { IsTrue result → walk.new.space.devices ≡ before.now.devices
-        → IsBut (is_set stored.new) walk.new.space before.now }
+        → IsEqualExcept (is_set stored.new) walk.new.space before.now }
 {
     let entry = view_of_entry(setup, &walk.regs, before);
     let wanted = setup.promise.wanted.as_slice();
-    if !look_at_known(wanted, &entry, &entry) {
+    if !are_clauses_known(wanted, &entry, &entry) {
         return false;
     }
     if !all_hold(wanted, &entry.sight, &entry.sight) {

@@ -7,16 +7,16 @@ ghost use Rattle.a2_bus.specs.Locations as at;
 ghost use Rattle.a2_bus.specs.Memory.{Memory};
 ghost use Rattle.a2_bus.specs.View.{memory_of};
 ghost use Rattle.a2_effect.specs.View.{registers_of};
-ghost use Rattle.a2_services.specs.Blocks.{span_of};
+ghost use Rattle.a2_services.specs.Blocks.{numbers_from_to};
 ghost use Rattle.a2_services.specs.Put.{after_put};
 ghost use Rattle.a2_services.specs.World.{world_of};
 ghost use Rattle.a2_footprint.specs.Reads.{Knows};
-ghost use Rattle.a2_footprint.specs.Services.{block_cell, bytes_made_of, fit_bytes, is_keyless as is_keyless_by, moved_by, parts_in as parts_by, put_moves};
-ghost use Rattle.a2_footprint.specs.Services.{service_needs, service_reads, service_sets, way_bytes, window_cells};
+ghost use Rattle.a2_footprint.specs.Services.{block_cell, screen_bytes_used, fit_bytes, is_keyless as is_keyless_by, moved_by, parts_in as parts_by, put_moves};
+ghost use Rattle.a2_footprint.specs.Services.{service_needs, service_reads, service_sets, continuation_bytes, window_cells};
 ghost use Rattle.a2_promise_certify.specs.Screen.{IsCursor, IsOnScreen, window_by};
 ghost use Rattle.a2_promise_certify.specs.Walking.{known_now};
 
-use crate::cursor::{Cursor, behind, cursor_in, is_on_screen, scrolls};
+use crate::cursor::{Cursor, cursor_in, following, is_on_screen, scrolls};
 use crate::marks::{are_known, is_known_now};
 use crate::stored::Stored;
 use a2_bus::AddressSpace;
@@ -62,8 +62,8 @@ pub(crate) fn is_keyless(service: Service) -> bool
 }
 
 // Returns the addresses of the two bytes that say where execution continues after a service.
-fn way_of(service: Service, s: u8) -> [u16; 2]
-    ensures { result ≡ way_bytes service s }
+fn continuation_bytes(service: Service, s: u8) -> [u16; 2]
+    ensures { result ≡ continuation_bytes service s }
 {
     match row_of(service).takes {
         Takes::OutputHook => [CSW, CSW + 1],
@@ -73,7 +73,7 @@ fn way_of(service: Service, s: u8) -> [u16; 2]
 }
 
 // Returns the addresses of the bytes that decide whether a service's needs are met.
-fn fit_of(needs: Needs) -> &'static [u16]
+fn bytes_of_needs(needs: Needs) -> &'static [u16]
     ensures { result.now ≡ fit_bytes needs }
 {
     match needs {
@@ -122,7 +122,7 @@ fn is_block_known(known: &[bool], stored: &Stored, row: u8, column: u8) -> bool
 // Returns whether the cells of a row's blocks are known, from a column on.
 fn are_known_across(known: &[bool], stored: &Stored, row: u8, first: u8, last: u8) -> bool
     ensures { IsTrue result → Knows (known_now known.now stored.now)
-        (map (λ column. block_cell row column) (span_of first last)) }
+        (map (λ column. block_cell row column) (numbers_from_to first last)) }
 {
     let end = first.max(last);
     if end >= 40 {
@@ -138,7 +138,7 @@ fn are_known_across(known: &[bool], stored: &Stored, row: u8, first: u8, last: u
 
 // Returns whether the cells of a column's blocks are known, from a row on.
 fn are_known_down(known: &[bool], stored: &Stored, first: u8, last: u8, column: u8) -> bool
-    ensures { IsTrue result → Knows (known_now known.now stored.now) (map (λ row. block_cell row column) (span_of first last)) }
+    ensures { IsTrue result → Knows (known_now known.now stored.now) (map (λ row. block_cell row column) (numbers_from_to first last)) }
 {
     let end = first.max(last);
     if end >= 48 {
@@ -192,7 +192,7 @@ fn are_both_known(
     {
         return false;
     }
-    are_moved_known(known, stored, next, &behind(put, cursor))
+    are_moved_known(known, stored, next, &following(put, cursor))
 }
 
 // Returns whether everything is known from which a service computes what it stores, given what it does on the screen.
@@ -204,7 +204,7 @@ fn is_used_known(
     space: &AddressSpace<Global>,
 ) -> bool
     ensures { IsTrue result → Knows (known_now known.now stored.now)
-        (bytes_made_of on_screen (registers_of regs.now) (memory_of space.now)) }
+        (screen_bytes_used on_screen (registers_of regs.now) (memory_of space.now)) }
 {
     let low = digit_byte(regs.a % 16);
     match on_screen {
@@ -239,8 +239,8 @@ pub(crate) fn is_all_known(
     ensures { IsTrue result → (before : ℕ)
         → Knows (known_now known.now stored.now) (service_reads service (world_of (registers_of regs.now) space.now before)) }
 {
-    if !are_known(known, stored, &way_of(service, regs.s))
-        || !are_known(known, stored, fit_of(row_of(service).needs))
+    if !are_known(known, stored, &continuation_bytes(service, regs.s))
+        || !are_known(known, stored, bytes_of_needs(row_of(service).needs))
     {
         return false;
     }

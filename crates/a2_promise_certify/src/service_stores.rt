@@ -8,7 +8,7 @@ ghost use Rattle.a2_page.specs.Cells.{numbers_from};
 ghost use Rattle.a2_bus.specs.Memory.{Memory};
 ghost use Rattle.a2_bus.specs.View.{memory_of};
 ghost use Rattle.a2_effect.specs.View.{registers_of};
-ghost use Rattle.a2_services.specs.Blocks.{span_of};
+ghost use Rattle.a2_services.specs.Blocks.{numbers_from_to};
 ghost use Rattle.a2_services.specs.Put.{after_put, window_of};
 ghost use Rattle.a2_services.specs.World.{world_of};
 ghost use Rattle.a2_footprint.specs.Services.{block_cell, bytes_set as bytes_set_by, cells_below, cells_changed, cells_to_end};
@@ -16,7 +16,7 @@ ghost use Rattle.a2_footprint.specs.Services.{changed_by, put_changes, service_s
 ghost use Rattle.a2_promise_certify.specs.Screen.{IsCursor, IsOnScreen, window_by};
 ghost use Rattle.a2_promise_certify.specs.Walking.{AreMarked};
 
-use crate::cursor::{Cursor, behind, cursor_in, is_on_screen, is_shown, scrolls};
+use crate::cursor::{Cursor, cursor_in, following, is_on_screen, is_shown, scrolls};
 use crate::marks::mark;
 use crate::stored::Stored;
 use a2_bus::AddressSpace;
@@ -86,7 +86,7 @@ fn mark_block(stored: &mut Stored, changes: &Changes, row: u8, column: u8) -> bo
 
 // Marks the cells of a row's blocks, from a column on.
 fn mark_blocks_across(stored: &mut Stored, changes: &Changes, row: u8, first: u8, last: u8) -> bool
-    ensures { IsTrue result → AreMarked stored.old stored.new changes.now (map (λ column. block_cell row column) (span_of first last)) }
+    ensures { IsTrue result → AreMarked stored.old stored.new changes.now (map (λ column. block_cell row column) (numbers_from_to first last)) }
 {
     if row >= 48 || first >= 40 || last >= 40 {
         return false;
@@ -97,7 +97,7 @@ fn mark_blocks_across(stored: &mut Stored, changes: &Changes, row: u8, first: u8
 
 // Marks the cells of a column's blocks, from a row on.
 fn mark_blocks_down(stored: &mut Stored, changes: &Changes, first: u8, last: u8, column: u8) -> bool
-    ensures { IsTrue result → AreMarked stored.old stored.new changes.now (map (λ row. block_cell row column) (span_of first last)) }
+    ensures { IsTrue result → AreMarked stored.old stored.new changes.now (map (λ row. block_cell row column) (numbers_from_to first last)) }
 {
     if first >= 48 || last >= 48 {
         return false;
@@ -214,9 +214,9 @@ fn mark_both(
         return false;
     };
     let mask = load(space, INVFLG);
-    let behind_first = behind(masked(first, mask), cursor);
+    let after_first_one = following(masked(first, mask), cursor);
     let next = masked(second, mask);
-    mark_output(stored, changes, first, space) && mark_put(stored, changes, next, &behind_first)
+    mark_output(stored, changes, first, space) && mark_put(stored, changes, next, &after_first_one)
 }
 
 // Returns the bytes at which a service with this reach stores, except the cells of the screen.

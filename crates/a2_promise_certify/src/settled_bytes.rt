@@ -4,9 +4,9 @@ ghost use Rattle.std.specs.Prelude.{◌≡◌, pos, Some, slice_get, IfOk, IfSom
 ghost use Rattle.a2_promise.specs.Values.{Moment, made, operated_on, value_of};
 ghost use Rattle.a2_promise.specs.declared.expr.Expr.TheVariants.{Number};
 ghost use Rattle.a2_promise.specs.declared.expr.Operation.TheVariants.{Equal};
-ghost use Rattle.a2_promise_certify.specs.But.{IsBut};
+ghost use Rattle.a2_promise_certify.specs.But.{IsEqualExcept};
 ghost use Rattle.a2_promise_certify.specs.Judging.{holds, no_names};
-ghost use Rattle.a2_promise_certify.specs.Settling.{AreBytes, AreSettled, ClausesSettle, IsLaid, Settles};
+ghost use Rattle.a2_promise_certify.specs.Settling.{AreBytes, AreSettled, ClausesSettle, IsSettled, Settles};
 ghost use Rattle.a2_promise_certify.specs.States.{is_byte};
 
 use crate::input::{Input, is_named};
@@ -104,14 +104,14 @@ pub fn settled_byte(among: &[Input], clauses: &[Clause], address: u16) -> Option
 }
 
 // Writes the byte of an input into RAM, if the clauses settle it.
-fn lay_settled(
+fn write_settled(
     among: &[Input],
     clauses: &[Clause],
     input: Input,
     space: &mut AddressSpace<Global>,
 ) -> bool
-    ensures laid { IsTrue result → IsLaid clauses.now among.now input space.new }
-    ensures rest { IsBut (λ a. is_byte a input) space.new space.old }
+    ensures laid { IsTrue result → IsSettled clauses.now among.now input space.new }
+    ensures rest { IsEqualExcept (λ a. is_byte a input) space.new space.old }
 {
     let Input::Byte(address) = input else {
         return false;
@@ -140,7 +140,7 @@ pub(crate) fn settle(
         return Ok(Vec::new(alloc));
     };
     let mut free = settle(alloc, among, clauses, rest, space)?;
-    if lay_settled(among, clauses, *input, space) {
+    if write_settled(among, clauses, *input, space) {
         return Ok(free);
     }
     free.push(*input)?;

@@ -2,7 +2,7 @@
 
 ghost use Rattle.std.specs.Prelude.{◌≡◌, ◌==◌, ◌||◌, ◌∷◌, ℕ, Bool, List, false, IsTrue, IfOk};
 ghost use Rattle.a2_text.specs.Bytes.{is_among};
-ghost use Rattle.a2_promise_certify.specs.But.{IsBut};
+ghost use Rattle.a2_promise_certify.specs.But.{IsEqualExcept};
 ghost use Rattle.a2_promise_certify.specs.Walking.{is_set};
 
 use a2_bus::{AddressSpace, Bus};
@@ -85,7 +85,7 @@ impl Stored {
 
     /// Undoes the stores, so that RAM is as it was before, and clears all marks.
     pub fn take_back(&mut self, space: &mut AddressSpace<Global>, before: &AddressSpace<Global>)
-        ensures space { IsBut (is_set self.old) space.old before.now → space.new ≡ before.now }
+        ensures space { IsEqualExcept (is_set self.old) space.old before.now → space.new ≡ before.now }
         ensures clear { (a : ℕ) → is_set self.new a ≡ false }
     {
         put_back_all(
@@ -105,7 +105,7 @@ fn put_back_all(
     space: &mut AddressSpace<Global>,
     before: &AddressSpace<Global>,
 )
-    ensures space { IsBut (is_among places.now) space.old before.now → space.new ≡ before.now }
+    ensures space { IsEqualExcept (is_among places.now) space.old before.now → space.new ≡ before.now }
     ensures clear { ((a : ℕ) → IsTrue (is_set marks.old a) → IsTrue (is_among places.now a))
         → (a : ℕ) → is_set marks.new a ≡ false }
 {
@@ -129,7 +129,7 @@ fn clear(marks: &mut [bool], address: u16)
 
 /// Copies the byte at an address from another RAM; does nothing above RAM.
 pub(crate) fn put_back(address: u16, space: &mut AddressSpace<Global>, other: &AddressSpace<Global>)
-    ensures { (there : ℕ → Bool) → IsBut (λ a. (address == a) || there a) space.old other.now → IsBut there space.new other.now }
+    ensures { (there : ℕ → Bool) → IsEqualExcept (λ a. (address == a) || there a) space.old other.now → IsEqualExcept there space.new other.now }
 {
     if let Some(byte) = other.peek(address) {
         space.write(address, byte);

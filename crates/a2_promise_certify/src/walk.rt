@@ -11,10 +11,10 @@ ghost use Rattle.a2_effect.specs.Place.{Place, place_of};
 ghost use Rattle.a2_effect.specs.View.{registers_of};
 ghost use Rattle.a2_footprint.specs.InstructionParts.{needs as parts_needed, mode_needs as parts_of_mode};
 ghost use Rattle.a2_footprint.specs.InstructionReads.{effect_reads, pointer_reads};
-ghost use Rattle.a2_footprint.specs.Turned.{in_stack, moves_s, operand_uses};
+ghost use Rattle.a2_footprint.specs.RotatedStack.{in_stack, moves_s, operand_uses};
 ghost use Rattle.a2_promise_certify.specs.Walking as walking;
-ghost use Rattle.a2_promise_certify.specs.Walking.{known_now, knows_part, is_beside, IsHome, IsOwnRts, IsStepOf};
-ghost use Rattle.a2_promise_certify.specs.Walking.{StandsAt};
+ghost use Rattle.a2_promise_certify.specs.Walking.{known_now, knows_part, is_beside_stack_page, ReachesOwnRts, IsOwnRts, IsStepOf};
+ghost use Rattle.a2_promise_certify.specs.Walking.{IsInstructionAt};
 
 use crate::allowed::is_in_stack;
 use crate::known_parts::KnownParts;
@@ -48,7 +48,7 @@ fn is_fetch_known(known: &[bool], stored: &Stored, pc: u16, mode: Mode) -> bool
 
 // Returns the instruction at an address of RAM, if there is one and two more bytes follow its first.
 fn instr_at(pc: u16, space: &AddressSpace<Global>) -> Option<Instr>
-    ensures { IfSome result (λ instr. StandsAt instr pc space.now.bytes) }
+    ensures { IfSome result (λ instr. IsInstructionAt instr pc space.now.bytes) }
 {
     let first = space.peek(pc)?;
     let second = space.peek(pc.wrapping_add(1))?;
@@ -108,8 +108,8 @@ fn as_read(mnemonic: Mnemonic) -> Mnemonic
 }
 
 // Returns whether the mode is enough to tell that an operand is not in memory or is in page 0, as most are.
-fn is_beside_stack(instr: Instr) -> bool
-    ensures { result ≡ is_beside instr.mode instr.value }
+fn is_mode_off_stack(instr: Instr) -> bool
+    ensures { result ≡ is_beside_stack_page instr.mode instr.value }
 {
     match instr.mode {
         Mode::Implied | Mode::Accumulator | Mode::Immediate => true,
@@ -130,7 +130,7 @@ fn is_off_stack(instr: Instr, regs: &Regs, space: &AddressSpace<Global>) -> bool
     if matches!(instr.mnemonic, Mnemonic::Tsx | Mnemonic::Txs) {
         return false;
     }
-    if is_beside_stack(instr) {
+    if is_mode_off_stack(instr) {
         return true;
     }
     // The same as in `are_reads_known`.
@@ -155,14 +155,14 @@ fn is_any_in_stack(addresses: &[u16]) -> bool
 
 // Executes a step, which is this instruction, and returns its cycles. Returns `None` if it is not executed, depends
 // on something unknown, uses the stack other than through S, or stores where it may not.
-fn make_step(
+fn execute_step(
     walk: &mut Walk,
     instr: Instr,
     known: &[bool],
     stored: &mut Stored,
     changes: &Changes,
 ) -> Option<u32>
-    requires { StandsAt instr walk.old.regs.pc walk.old.space.bytes }
+    requires { IsInstructionAt instr walk.old.regs.pc walk.old.space.bytes }
     ensures { IfSome result (IsStepOf known.now stored.old stored.new changes.now walk.old walk.new) }
 {
     let (regs, space) = (&walk.regs, &walk.space);
@@ -218,18 +218,18 @@ fn go_on(
     stored: &mut Stored,
     changes: &Changes,
 ) -> Option<u32>
-    requires { IfSome instr (λ instr. StandsAt instr walk.old.regs.pc walk.old.space.bytes) }
+    requires { IfSome instr (λ instr. IsInstructionAt instr walk.old.regs.pc walk.old.space.bytes) }
     ensures { IfSome result (IsStepOf known.now stored.old stored.new changes.now walk.old walk.new) }
 {
     match instr {
-        Some(instr) => make_step(walk, instr, known, stored, changes),
+        Some(instr) => execute_step(walk, instr, known, stored, changes),
         None => serve(walk, known, stored, changes),
     }
 }
 
 // Returns whether the instruction at PC is the routine's own RTS, with known bytes. Before it S is the same as at the
 // entry.
-fn is_home(known: &[bool], stored: &Stored, instr: Instr, regs: &Regs) -> bool
+fn is_own_rts(known: &[bool], stored: &Stored, instr: Instr, regs: &Regs) -> bool
     ensures { IsTrue result → IsOwnRts known.now stored.now instr (registers_of regs.now) }
 {
     if regs.s != ENTRY_S {
@@ -258,7 +258,7 @@ pub struct Walk {
 /// Returns `None` if the routine does not get there within the largest number of steps, depends on a byte, a register
 /// or a flag that is not known, or stores where it may not. `known` marks the addresses of RAM that are known at the
 /// entry. The addresses that are stored at become marked.
-pub fn walk_home(
+pub fn run_to_own_rts(
     walk: &mut Walk,
     known: &[bool],
     stored: &mut Stored,
@@ -268,13 +268,13 @@ pub fn walk_home(
     requires stored { (a : ℕ) → walking.is_set stored.old a ≡ false }
     requires cycles { walk.old.cycles ≡ 0 }
     requires s { walk.old.regs.s ≡ 0xFD }
-    ensures { IfSome result (λ steps. (steps < most) × IsHome known.now stored.new walk.old.parts walk.new.parts changes.now
+    ensures { IfSome result (λ steps. (steps < most) × ReachesOwnRts known.now stored.new walk.old.parts walk.new.parts changes.now
         (registers_of walk.old.regs) walk.old.space (registers_of walk.new.regs) walk.new.space walk.new.cycles steps) }
 {
     for steps in 0..most {
         let instr = instr_at(walk.regs.pc, &walk.space);
         if let Some(instr) = instr
-            && is_home(known, stored, instr, &walk.regs)
+            && is_own_rts(known, stored, instr, &walk.regs)
         {
             return Some(steps);
         }

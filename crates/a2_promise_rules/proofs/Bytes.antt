@@ -15,7 +15,7 @@ use Rattle.a2_services.specs.World.{World}
 use Rattle.a2_services.specs.Services.{service_at, reach, served}
 use Rattle.a2_machine.specs.declared.causes.Cause.{Cause}
 use Rattle.a2_machine.specs.declared.causes.Cause.TheVariants.{Returned, CodeWrite, OffStatement}
-use Rattle.a2_machine.specs.Meaning.{Code, Decoded, cause_of_refusal, found_at_pc, instruction_cause, next, next_at, service_cause, statements, stuck, stuck_at, world_at}
+use Rattle.a2_machine.specs.Meaning.{Code, Decoded, cause_of_cpu_error, found_at_pc, instruction_cause, next, next_at, service_cause, statements, stuck, stuck_at, world_at}
 use Rattle.a2_machine.specs.ByteRun.{bytes, decoded_or_cause}
 use Rattle.a2_machine.specs.Guarded.{HoldsCode}
 use Rattle.a2_machine.specs.ProgramGuard.{guard_of_program}
@@ -34,9 +34,9 @@ otherwise true cause rest h = never cause h
 otherwise false cause rest h = h
 
 unstored : (why : Option Refusal) (forbidden : Bool)
-    → (let c : Option Cause = elim why [ Some w ↦ Some (cause_of_refusal w) | None ↦ if forbidden then Some CodeWrite else None ] in c) ≡ None
+    → (let c : Option Cause = elim why [ Some w ↦ Some (cause_of_cpu_error w) | None ↦ if forbidden then Some CodeWrite else None ] in c) ≡ None
     → why ≡ None
-unstored (Some w) forbidden h = never (cause_of_refusal w) h
+unstored (Some w) forbidden h = never (cause_of_cpu_error w) h
 unstored None forbidden h = refl
 
 nothing_stored : (ns : List ℕ) → list_any (is_among []) ns ≡ false
@@ -46,7 +46,7 @@ nothing_stored (n ∷ ns) = nothing_stored ns
 free_instruction : (protected : List ℕ) (decoded : Decoded) (w : World) → instruction_cause protected decoded w ≡ None
     → instruction_cause [] decoded w ≡ None
 free_instruction protected decoded w h =
-    ap₂ (λ why stored. let c : Option Cause = elim why [ Some r ↦ Some (cause_of_refusal r) | None ↦ if stored then Some CodeWrite else None ] in c)
+    ap₂ (λ why stored. let c : Option Cause = elim why [ Some r ↦ Some (cause_of_cpu_error r) | None ↦ if stored then Some CodeWrite else None ] in c)
     (unstored (refusal_of decoded.row.mnemonic w.registers.flags) (list_any (is_among protected) (stores_of memory_access decoded.row decoded.value w)) h)
     (nothing_stored (stores_of memory_access decoded.row decoded.value w))
 

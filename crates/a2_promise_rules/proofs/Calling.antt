@@ -32,7 +32,7 @@ use Rattle.a2_promise_rules.proofs.Proving.{onto, stands, weaken, whole_with}
 use Rattle.a2_promise_rules.proofs.Ranges.{is_in, is_beside, out_of_ranges}
 
 -- a world after the call that left a return address on the stack
-pub record Behind (s : ℕ) (w u : World) : Type 0 where
+pub record AfterCall (s : ℕ) (w u : World) : Type 0 where
   pub pc_is : u.registers.pc ≡ home s w
   pub s_is : u.registers.s ≡ s + 2
   pub d_is : u.registers.flags.d ≡ false
@@ -41,29 +41,29 @@ pub record Behind (s : ℕ) (w u : World) : Type 0 where
 -- call, and `After` holds there.
 abbrev pub Serves : Code → (to s : ℕ) → (Before : World → Type 0) → (After : World → World → Type 0) → Type 0
 Serves code to s Before After =
-    (w : World) → IsWhole w → Before w → Reaches code (enter to s w) (λ u. Behind s w u × After w u)
+    (w : World) → IsWhole w → Before w → Reaches code (enter to s w) (λ u. AfterCall s w u × After w u)
 
 -- a call of a service, and what follows
-pub call_service : (code : Code) (to s behind : ℕ) (Before : World → Type 0) (After : World → World → Type 0)
+pub call_service : (code : Code) (to s following : ℕ) (Before : World → Type 0) (After : World → World → Type 0)
     (Q : World → Type 0)
-    → Serves code to s Before After → (v : World) → IsWhole v → Before v → home s v ≡ behind
-    → ((u : World) → After v u → Reaches code (enter behind (s + 2) u) Q) → Reaches code (enter to s v) Q
-call_service code to s behind Before After Q serves v whole before home_is later = go (serves v whole before)
+    → Serves code to s Before After → (v : World) → IsWhole v → Before v → home s v ≡ following
+    → ((u : World) → After v u → Reaches code (enter following (s + 2) u) Q) → Reaches code (enter to s v) Q
+call_service code to s following Before After Q serves v whole before home_is later = go (serves v whole before)
   where
-    at_last : (u : World) → Behind s v u → After v u → Reaches code u Q
-    at_last u is after = stands code behind (s + 2) u Q (is.pc_is ∙ home_is) is.s_is is.d_is (later u after)
+    at_last : (u : World) → AfterCall s v u → After v u → Reaches code u Q
+    at_last u is after = stands code following (s + 2) u Q (is.pc_is ∙ home_is) is.s_is is.d_is (later u after)
 
-    go : Reaches code (enter to s v) (λ u. Behind s v u × After v u) → Reaches code (enter to s v) Q
+    go : Reaches code (enter to s v) (λ u. AfterCall s v u × After v u) → Reaches code (enter to s v) Q
     go (n, (u, walk, (is, after))) = onto code (enter to s v) u n Q walk (at_last u is after)
 
 -- the same, if the world after the service is written in another form, from which more can be computed
-pub call_as : (code : Code) (to s behind : ℕ) (Before : World → Type 0) (After : World → World → Type 0) (Q : World → Type 0)
-    → Serves code to s Before After → (v : World) → IsWhole v → Before v → home s v ≡ behind
+pub call_as : (code : Code) (to s following : ℕ) (Before : World → Type 0) (After : World → World → Type 0) (Q : World → Type 0)
+    → Serves code to s Before After → (v : World) → IsWhole v → Before v → home s v ≡ following
     → (written : World → World) → ((u : World) → After v u → written u ≡ u)
-    → ((u : World) → After v u → Reaches code (enter behind (s + 2) (written u)) Q) → Reaches code (enter to s v) Q
-call_as code to s behind Before After Q serves v whole before home_is written same later =
-    call_service code to s behind Before After Q serves v whole before home_is
-    (λ u after. subst (λ x. Reaches code (enter behind (s + 2) x) Q) (same u after) (later u after))
+    → ((u : World) → After v u → Reaches code (enter following (s + 2) (written u)) Q) → Reaches code (enter to s v) Q
+call_as code to s following Before After Q serves v whole before home_is written same later =
+    call_service code to s following Before After Q serves v whole before home_is
+    (λ u after. subst (λ x. Reaches code (enter following (s + 2) x) Q) (same u after) (later u after))
 
 -- Window and cursor
 
@@ -237,9 +237,9 @@ module _ (code : Code) (at s : ℕ) (room : s < 254) (service : Service) (w : Wo
       let to : ((s + 1) % 256 + 1) % 256 ≡ s + 2 = omega (arith, room) in
       serve code (enter at s w) service here away free ∙ ap Some (served_there ∙ (λ i. pulled (to i) (low i) (high i)))
 
-  behind : Behind s w after
+  following : AfterCall s w after
   unfolding after
-  behind = record { pc_is = refl; s_is = refl; d_is = refl }
+  following = record { pc_is = refl; s_is = refl; d_is = refl }
 
   left : Left ranges taken a x n w after
   unfolding after
@@ -252,8 +252,8 @@ module _ (code : Code) (at s : ℕ) (room : s < 254) (service : Service) (w : Wo
     bytes = record { a = small; x = x_small; y = whole.y; ram = n_whole };
   }
 
-  pub leave : Reaches code (enter at s w) (λ u. Behind s w u × Left ranges taken a x n w u)
-  leave = (1, (after, comes, (behind, left)))
+  pub leave : Reaches code (enter at s w) (λ u. AfterCall s w u × Left ranges taken a x n w u)
+  leave = (1, (after, comes, (following, left)))
 
 pub in_stack : (ranges : List (ℕ × ℕ)) → list_all (is_beside 0x100 0x1FF) ranges ≡ true → (b : ℕ) → 0x100 ≤ b → b ≤ 0x1FF
     → is_in ranges b ≡ false
@@ -269,7 +269,7 @@ module _ (code : Code) (at s : ℕ) (room : s < 254) (service : Service) (w : Wo
   -- a service that prints
   print : (m : Memory) → effect service (enter at s w) ≡ back (output m (enter at s w))
       → ((b : ℕ) → is_in print_ranges b ≡ false → reach service b ≡ false) → Whole m → CursorFits m
-      → m.devices ≡ w.memory.devices → Reaches code (enter at s w) (λ u. Behind s w u × Printed w u)
+      → m.devices ≡ w.memory.devices → Reaches code (enter at s w) (λ u. AfterCall s w u × Printed w u)
   print m is reaches m_whole m_fits devices =
       weaken code (enter at s w) _ _
       (leave code at s room service w whole here away free print_ranges reaches (in_stack print_ranges refl) []
@@ -295,7 +295,7 @@ module _ (code : Code) (at s : ℕ) (room : s < 254) (service : Service) (w : Wo
   stay : (ranges : List (ℕ × ℕ)) → ((b : ℕ) → is_in ranges b ≡ false → reach service b ≡ false)
       → list_all (is_beside 0x100 0x1FF) ranges ≡ true → (n : Memory)
       → effect service (enter at s w) ≡ back (with_memory n (enter at s w)) → Whole n → n.devices ≡ w.memory.devices
-      → Reaches code (enter at s w) (λ u. Behind s w u × Stayed ranges w u)
+      → Reaches code (enter at s w) (λ u. AfterCall s w u × Stayed ranges w u)
   stay ranges reaches all n is n_whole devices =
       weaken code (enter at s w) _ _
       (leave code at s room service w whole here away free ranges reaches (in_stack ranges all) [] n w.registers.a w.registers.x is
@@ -305,7 +305,7 @@ module _ (code : Code) (at s : ℕ) (room : s < 254) (service : Service) (w : Wo
   -- a service that sets the mask of characters
   mask : (byte : ℕ) → byte < 256 → ((b : ℕ) → is_in mask_ranges b ≡ false → reach service b ≡ false)
       → effect service (enter at s w) ≡ back (with_memory (with_ram w.memory 0x32 byte) (enter at s w))
-      → Reaches code (enter at s w) (λ u. Behind s w u × Masked byte w u)
+      → Reaches code (enter at s w) (λ u. AfterCall s w u × Masked byte w u)
   mask byte small reaches is =
       weaken code (enter at s w) _ _
       (leave code at s room service w whole here away free mask_ranges reaches (in_stack mask_ranges refl) []
@@ -358,7 +358,7 @@ module _ (a : ℕ) (w : World) where
   later_cursor : HasHook w → HasCursor (later a w)
   later_cursor h = record { r1 = h.r1; r2 = h.r2; r3 = h.r3; r4 = h.r4; r5 = h.r5; r6 = h.r6 }
 
-  pub later_behind : (s : ℕ) (u : World) → Behind s (later a w) u → Behind s w u
+  pub later_behind : (s : ℕ) (u : World) → AfterCall s (later a w) u → AfterCall s w u
   later_behind s u h = record { pc_is = h.pc_is; s_is = h.s_is; d_is = h.d_is }
 
 printed_later : (w u : World) → Printed (later w.registers.a w) u → Printed w u

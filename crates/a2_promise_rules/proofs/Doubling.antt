@@ -8,7 +8,7 @@ use Rattle.a2_effect.specs.Registers.{registers_at}
 use Rattle.a2_machine.proofs.Computing.{computing}
 use Rattle.a2_theorems.specs.Routines.{op}
 use Rattle.a2_theorems.proofs.Reading.{reading}
-use Rattle.a2_theorems.proofs.Texts.{entry_of, statements_of}
+use Rattle.a2_theorems.proofs.TextRunProofs.{entry_of, statements_of}
 use Rattle.a2_text.specs.Words.{first_word}
 use Rattle.a2_promise.specs.declared.expr.Atom.TheVariants as atom
 use Rattle.a2_promise.specs.declared.expr.Operation.TheVariants as operation
@@ -17,14 +17,14 @@ use Rattle.a2_promise.specs.declared.words.Relation.TheVariants as relation
 use Rattle.a2_promise.specs.Grammar.{fits}
 use Rattle.a2_promise.specs.Tokens.{tokens}
 use Rattle.a2_promise.specs.Tokens as token
-use Rattle.a2_promise.specs.Told.{Line}
-use Rattle.a2_promise.specs.Told as told
+use Rattle.a2_promise.specs.PromisedTerms.{Line}
+use Rattle.a2_promise.specs.PromisedTerms as told
 use Rattle.a2_promise.specs.Written.{meant, spelled}
 use Rattle.a2_promise.specs.Written as written
-use Rattle.a2_promise_rules.specs.Doubling.{doubling, double, DoublingIsProved, DoublingTells}
-use Rattle.a2_promise_rules.proofs.Told.{not_nothing}
+use Rattle.a2_promise_rules.specs.Doubling.{doubling, double, DoublingIsProved, DoublingStates}
+use Rattle.a2_promise_rules.proofs.StatedTerms.{not_nothing}
 use Rattle.a2_promise_rules.proofs.Entered.{Laid, State, are_bytes, is_met, laid_of}
-use Rattle.a2_promise_rules.proofs.Kept.{After, Before, code_of, names_of, proved, told_of}
+use Rattle.a2_promise_rules.proofs.Kept.{After, Before, code_of, names_of, proved, stated_by_text}
 use Rattle.a2_promise_rules.proofs.Leaving.{leaves}
 use Rattle.a2_promise_rules.proofs.Meeting.{Meets, home}
 use Rattle.a2_promise_rules.proofs.Proving.{whole_after}
@@ -72,7 +72,7 @@ said =
     ∷ told.ensures (written.joined (join.Compare relation.Equal) (written.atom atom.A) (written.joined (join.Apply operation.Times) (written.decimal (token.decimal (codes "2")) 2) (written.before (written.atom atom.A))))
     ∷ told.changes (told.held atom.A ∷ []) ∷ []
 
-pub doubling_tells : DoublingTells
+pub doubling_tells : DoublingStates
 unfolding first_word tokens spelled meant fits said
 doubling_tells = record {
   line = _;
@@ -119,5 +119,5 @@ meets w bytes before = (
 
 pub doubling_is_proved : DoublingIsProved
 doubling_is_proved =
-    proved doubling _ listing laid 0x300 3 double state [] read stated (told_of doubling _ _ _ 3 double refl named doubling_tells)
+    proved doubling _ listing laid 0x300 3 double state [] read stated (stated_by_text doubling _ _ _ 3 double refl named doubling_tells)
     refl lays small met refl refl refl meets

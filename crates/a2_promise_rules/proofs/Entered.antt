@@ -3,7 +3,7 @@ use Rattle.std.specs.Prelude.{◌≡◌, ◌<◌, ◌≤◌, ◌⊎◌, ℕ, zer
 use Rattle.std.specs.List.{concat, list_all}
 use Rattle.std.proofs.Common.{sym, ap, ap₂, ◌∙◌, subst, arith, inl, inr}
 use Rattle.std.proofs.lemmas.Bool.{false≢true, lt-ltb}
-use Rattle.a2_text.specs.Refusals.{◌otherwise◌}
+use Rattle.a2_text.specs.FirstError.{◌otherwise◌}
 use Rattle.a2_hex.specs.Images.{held}
 use Rattle.a2_syntax.specs.declared.source.Body.{Body}
 use Rattle.a2_syntax.specs.declared.source.Body.TheVariants.{Empty, Instr, Org, Equ, Dfb, Dw, Asc, Ds}
@@ -29,9 +29,9 @@ use Rattle.a2_services.specs.World.{World}
 use Rattle.a2_footprint.specs.declared.Part.{Part}
 use Rattle.a2_footprint.specs.declared.Part.TheVariants.{A as part_a, X as part_x, Y as part_y, N as part_n, V as part_v, D as part_d, I as part_i, Z as part_z, C as part_c}
 use Rattle.a2_footprint.specs.Parts.{is_part, held as part_held}
-use Rattle.a2_theorems.proofs.Texts.{source_of}
+use Rattle.a2_theorems.proofs.TextRunProofs.{source_of}
 use Rattle.a2_promise.specs.declared.promises.Promise.{Promise}
-use Rattle.a2_promise.specs.Told.{Terms, IsPromise}
+use Rattle.a2_promise.specs.PromisedTerms.{Terms, IsPromise}
 use Rattle.a2_promise.specs.Values.{Moment}
 use Rattle.a2_promise_certify.specs.Judging.{all_hold}
 use Rattle.a2_promise_certify.specs.Kept.{bytes_of}
@@ -39,14 +39,14 @@ use Rattle.a2_promise_rules.specs.Promised.{IsEntered}
 use Rattle.a2_promise_rules.specs.Typed.{keys_of}
 use Rattle.a2_promise_rules.proofs.Proving.{eq_yes}
 use Rattle.a2_promise_rules.proofs.Ranges.{both}
-use Rattle.a2_promise_rules.proofs.Seeing.{all_seen, entry, seen_holds}
+use Rattle.a2_promise_rules.proofs.EntryValues.{all_seen, entry, seen_holds}
 use Rattle.a2_promise_rules.proofs.Valuing.{below, memory_byte}
 
 -- the keys of all texts that are taken
-abbrev pub keys_told : Terms → List ℕ
-keys_told terms = concat terms.takes
+abbrev pub keys_stated : Terms → List ℕ
+keys_stated terms = concat terms.takes
 
-pub same_keys : (promise : Promise) (terms : Terms) → IsPromise promise terms → keys_of promise ≡ keys_told terms
+pub same_keys : (promise : Promise) (terms : Terms) → IsPromise promise terms → keys_of promise ≡ keys_stated terms
 same_keys promise terms says = ap concat says.takes
 
 -- The bytes of a text
@@ -179,7 +179,7 @@ filled laid bytes a = unwrap_or (held_by laid a) (unwrap_or (peek_in bytes a) 0)
 abbrev pub world_of : Terms → Laid → State → World
 world_of terms laid state = record {
   registers = entering terms.address state.registers;
-  memory = memory_from (filled laid state.bytes) (first_devices (keys_told terms));
+  memory = memory_from (filled laid state.bytes) (first_devices (keys_stated terms));
   cycles = 0;
 }
 
@@ -250,7 +250,7 @@ module _ (text : List ℕ) (laid : Laid) (terms : Terms) (state : State) (lays :
   registers = entering terms.address state.registers
 
   abbrev devices : Devices
-  devices = first_devices (keys_told terms)
+  devices = first_devices (keys_stated terms)
 
   abbrev world : World
   world = world_of terms laid state

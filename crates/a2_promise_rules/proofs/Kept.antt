@@ -38,19 +38,19 @@ use Rattle.a2_promise.specs.Values.{value_of}
 use Rattle.a2_promise_certify.specs.Judging.{all_hold, holds, no_names}
 use Rattle.a2_promise_certify.specs.Kept.{is_own, may_change, may_store, moment}
 use Rattle.a2_promise_certify.specs.States.{Enters}
-use Rattle.a2_theorems.proofs.Texts.{IsAccepted, accepted, entry_of, not_refused, source_of, statements_of}
+use Rattle.a2_theorems.proofs.TextRunProofs.{IsAccepted, accepted, entry_of, not_refused, source_of, statements_of}
 use Rattle.a2_promise.specs.Phrases.{Phrase, phrase_of}
-use Rattle.a2_promise.specs.Told.{Terms, IsTold, IsPromise}
+use Rattle.a2_promise.specs.PromisedTerms.{Terms, IsPromisedBy, IsPromise}
 use Rattle.a2_promise_rules.specs.Promised.{lines_of_routines, KeepsPromise, IsProved}
 use Rattle.a2_promise_rules.specs.Typed.{KeepsWithKeys, keys_of, laid_with_keys}
 use Rattle.a2_promise_rules.specs.Worlds.{OnlyBytes}
 use Rattle.a2_promise_rules.proofs.Bytes as run
-use Rattle.a2_promise_rules.proofs.Entered.{Laid, State, are_bytes, entered, is_met, keys_told, laid_of, same_keys, world_of}
+use Rattle.a2_promise_rules.proofs.Entered.{Laid, State, are_bytes, entered, is_met, keys_stated, laid_of, same_keys, world_of}
 use Rattle.a2_promise_rules.proofs.Leaving.{Leaves, Waits, none_waits, waits_all}
 use Rattle.a2_promise_rules.proofs.Ranges.{all_pass, both, is_in, passes_not}
 use Rattle.a2_promise_rules.proofs.Meeting.{IsWhole, only_bytes, enter, Back, Meets, Reaches}
-use Rattle.a2_promise_rules.proofs.Saying.{all_say, all_tell, tells, unnamed}
-use Rattle.a2_promise_rules.proofs.Telling.{said_holds, holds_said}
+use Rattle.a2_promise_rules.proofs.PhraseMeanings.{all_say, all_tell, tells, unnamed}
+use Rattle.a2_promise_rules.proofs.Claims.{said_holds, holds_said}
 
 neither : (x y : Bool) → (x || y) ≡ false → (x ≡ false) × (y ≡ false)
 neither true y h = absurd (true≢false h)
@@ -95,7 +95,7 @@ same_ranges (range ∷ more) a = ap (λ v. (nat_le range.first a && nat_le a ran
 -- what is known at the entry
 pub record Before (terms : Terms) (w : World) : Type 0 where
   pub says : all_say terms.wanted w w
-  pub waits : Waits (keys_told terms) w
+  pub waits : Waits (keys_stated terms) w
 
 -- what is known after the routine
 pub record After (terms : Terms) (changed : List (ℕ × ℕ)) (w v : World) : Type 0 where
@@ -103,7 +103,7 @@ pub record After (terms : Terms) (changed : List (ℕ × ℕ)) (w v : World) : T
   pub a : terms.a ≡ false → v.registers.a ≡ w.registers.a
   pub x : terms.x ≡ false → v.registers.x ≡ w.registers.x
   pub y : terms.y ≡ false → v.registers.y ≡ w.registers.y
-  pub rest : Leaves w.memory (is_in changed) (keys_told terms) v
+  pub rest : Leaves w.memory (is_in changed) (keys_stated terms) v
   pub bytes : IsWhole v
 
 -- A world at the entry
@@ -219,7 +219,7 @@ module _ (all : List Statement) (program : Assembled) (sound : IsSound program) 
     all_taken : (world_at (bytes None) w (suc n)).memory.devices.keys ≡ []
     all_taken =
         ap (λ (x : World). x.memory.devices.keys) whole.there
-        ∙ none_waits (keys_told terms) w.memory (is_in changed) v
+        ∙ none_waits (keys_stated terms) w.memory (is_in changed) v
         (keys_wait program sound promise w enters ∙ same_keys promise terms says) after.rest
 
     kept : KeepsWithKeys promise (suc n) w
@@ -244,17 +244,17 @@ abbrev pub names_of : List ℕ → Names
 names_of text = names (source_rows (source_of text))
 
 -- what lines and names state is stated by the text that has them
-pub told_of : (text label : List ℕ) (lines : List (List ℕ)) (known : Names) (above : ℕ) (terms : Terms) → lines_of_routines text ≡ lines
-    → names_of text ≡ known → IsTold lines known above label terms → IsTold (lines_of_routines text) (names_of text) above label terms
-told_of text label lines known above terms cut named told =
-    subst (λ l. IsTold l (names_of text) above label terms) (sym cut)
-    (subst (λ names. IsTold lines names above label terms) (sym named) told)
+pub stated_by_text : (text label : List ℕ) (lines : List (List ℕ)) (known : Names) (above : ℕ) (terms : Terms) → lines_of_routines text ≡ lines
+    → names_of text ≡ known → IsPromisedBy lines known above label terms → IsPromisedBy (lines_of_routines text) (names_of text) above label terms
+stated_by_text text label lines known above terms cut named told =
+    subst (λ l. IsPromisedBy l (names_of text) above label terms) (sym cut)
+    (subst (λ names. IsPromisedBy lines names above label terms) (sym named) told)
 
 -- THE THEOREM: suppose a text is read, these are its statements and bytes, and its lines state these terms. If its
 -- routine meets the terms, and some state meets the requirements, the promise is proved.
 pub proved : (text label : List ℕ) (all : List Statement) (laid : Laid) (entry above : ℕ) (terms : Terms) (state : State)
     → (changed : List (ℕ × ℕ))
-    → entry_of text ≡ Some entry → statements_of text ≡ all → IsTold (lines_of_routines text) (names_of text) above label terms
+    → entry_of text ≡ Some entry → statements_of text ≡ all → IsPromisedBy (lines_of_routines text) (names_of text) above label terms
     → terms.prints ≡ [] → laid_of text ≡ laid → are_bytes laid ≡ true → is_met terms laid state ≡ true
     → all_tell terms.wanted ≡ true → all_tell terms.promised ≡ true
     → all_pass (may_be_stored terms) changed ≡ true → MeetsPromise all terms changed → IsProved text label
@@ -263,7 +263,7 @@ proved text label all laid entry above terms state changed read stated told prin
   kept = λ program program_is. record {
     above = above;
     terms = terms;
-    told = subst (λ names. IsTold (lines_of_routines text) names above label terms) (sym (made program program_is).named) told;
+    told = subst (λ names. IsPromisedBy (lines_of_routines text) names above label terms) (sym (made program program_is).named) told;
     prints = prints;
     met = λ promise says. (
       world_of terms laid state,
@@ -309,7 +309,7 @@ proved text label all laid entry above terms state changed read stated told prin
         before : Before terms world
         before = record {
           says = required_is;
-          waits = waits_all (keys_told terms) world (keys_wait program sound promise world enters ∙ same_keys promise terms says);
+          waits = waits_all (keys_stated terms) world (keys_wait program sound promise world enters ∙ same_keys promise terms says);
         }
 
         there : enter terms.address 0xFD world ≡ world

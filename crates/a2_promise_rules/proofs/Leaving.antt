@@ -45,14 +45,14 @@ abbrev pub Waits : List ℕ → World → Type 0
 Waits keys w = (rest : List ℕ) × (w.memory.devices.keys ≡ keys ++ rest)
 
 -- the keys after the first one
-abbrev behind_first : List ℕ → List ℕ
-behind_first [] = []
-behind_first (key ∷ keys) = keys
+abbrev keys_after_first : List ℕ → List ℕ
+keys_after_first [] = []
+keys_after_first (key ∷ keys) = keys
 
 -- the keys that wait after those that were taken
 same_behind : (taken one other : List ℕ) → taken ++ one ≡ taken ++ other → one ≡ other
 same_behind [] one other same = same
-same_behind (key ∷ taken) one other same = same_behind taken one other (ap behind_first same)
+same_behind (key ∷ taken) one other same = same_behind taken one other (ap keys_after_first same)
 
 pub still : (taken first more : List ℕ) (memory : Memory) (changed : ℕ → Bool) (v : World)
     → (rest : List ℕ) × (memory.devices.keys ≡ (taken ++ (first ++ more)) ++ rest) → Leaves memory changed taken v → Waits first v

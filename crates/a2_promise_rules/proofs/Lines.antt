@@ -7,7 +7,7 @@ use Rattle.a2_page.specs.declared.Page.{Page}
 use Rattle.a2_page.specs.declared.Page.TheVariants.{One, Two}
 use Rattle.a2_page.specs.Cells.{Cell, cell_at, address_of}
 use Rattle.a2_page.specs.Grid.{Grid, byte_in}
-use Rattle.a2_page.proofs.Finding.{StandsAt, cell_at-stands}
+use Rattle.a2_page.proofs.Finding.{IsCellAtAddress, cell_at-stands}
 use Rattle.a2_bus.specs.Devices.{Devices, key_taken}
 use Rattle.a2_bus.specs.Memory.{Memory, grid, ram_byte, with_ram}
 use Rattle.a2_bus.proofs.Agreement.{written}
@@ -122,7 +122,7 @@ no_cell b inside = go (cell_at b) refl
     go : (found : Option Cell) → cell_at b ≡ found → found ≡ None
     go None is = refl
     go (Some cell) is =
-        let stands : StandsAt b cell = cell_at-stands b cell is in
+        let stands : IsCellAtAddress b cell = cell_at-stands b cell is in
         absurd (at_page cell.page cell.row cell.column stands.row_ok stands.column_ok stands.address_is)
 
 -- storing a byte at an address that already holds it changes nothing
@@ -282,8 +282,8 @@ module _ (m : Memory) (len key : ℕ) (line rest : List ℕ) (plain : IsPlain ke
   abbrev longer : Memory
   longer = kept m len byte
 
-  abbrev behind : Memory
-  behind = after_put_unmasked byte longer
+  abbrev following : Memory
+  following = after_put_unmasked byte longer
 
   byte_is : byte_of_key m key ≡ byte
   byte_is = ap (λ v. let b = if v then byte_in m.page1 (cursor_row m) (screen_column m) else 0x80 + key in
@@ -292,17 +292,17 @@ module _ (m : Memory) (len key : ℕ) (line rest : List ℕ) (plain : IsPlain ke
   full : (len == 255) ≡ false
   full = grind (arith, nat_tests, short)
 
-  put_is : after_byte byte (reading longer len) ≡ reading behind (len + 1)
+  put_is : after_byte byte (reading longer len) ≡ reading following (len + 1)
   put_is = λ i.
       if plain.no_backspace i then elim len as (λ _. Reading) [
-        | zero ↦ record { memory = after_prompt behind; len = 0 }
-        | suc k ↦ record { memory = behind; len = k }
+        | zero ↦ record { memory = after_prompt following; len = 0 }
+        | suc k ↦ record { memory = following; len = k }
       ]
-      else if plain.no_cancel i then after_cancel behind
-      else if full i then after_cancel behind
-      else reading behind (len + 1)
+      else if plain.no_cancel i then after_cancel following
+      else if full i then after_cancel following
+      else reading following (len + 1)
 
-  goes_on : line_read (key ∷ others) (reading m len) ≡ line_read others (reading behind (len + 1))
+  goes_on : line_read (key ∷ others) (reading m len) ≡ line_read others (reading following (len + 1))
   unfolding line_read
   goes_on =
       ap (λ b. if b == 0x8D then reading (after_put 0x8D (cleared_to_end (kept m len b))) len
@@ -314,19 +314,19 @@ module _ (m : Memory) (len key : ℕ) (line rest : List ℕ) (plain : IsPlain ke
   noted_is : IsNoted m len byte others longer
   noted_is = noted m len byte key others (omega (arith, short)) plain.small whole fits waits
 
-  behind_whole : Whole behind
+  behind_whole : Whole following
   behind_whole = unmasked_whole byte longer noted_is.whole noted_is.fits plain.small
 
-  behind_fits : CursorFits behind
+  behind_fits : CursorFits following
   behind_fits = put_unmasked_fits byte longer noted_is.fits
 
-  behind_keys : behind.devices.keys ≡ others
+  behind_keys : following.devices.keys ≡ others
   behind_keys =
       ap (λ (r : Reading). r.memory.devices.keys) (sym put_is)
       ∙ ap (λ (d : Devices). d.keys) (after_byte_devices byte (reading longer len)) ∙ noted_is.keys
 
   -- a line that is read after this key is read from this key on
-  one_more : (last : Reading) → IsRead line rest behind (len + 1) last → IsRead (key ∷ line) rest m len last
+  one_more : (last : Reading) → IsRead line rest following (len + 1) last → IsRead (key ∷ line) rest m len last
   one_more last later = record {
     len_is = omega (arith, later.len_is);
     whole = later.whole;
@@ -342,7 +342,7 @@ module _ (m : Memory) (len key : ℕ) (line rest : List ℕ) (plain : IsPlain ke
       next : 0x200 + (len + 1) ≡ 0x200 + len + 1
       next = omega arith
 
-      stays : (b : ℕ) → 0x200 ≤ b → b < 0x200 + len + 1 → ram_byte behind b ≡ ram_byte longer b
+      stays : (b : ℕ) → 0x200 ≤ b → b < 0x200 + len + 1 → ram_byte following b ≡ ram_byte longer b
       stays b from less = put_unmasked-kept b (record { from = from; to = omega (arith, less, short) }) byte longer
 
 pub line_is_read : (line rest : List ℕ) (m : Memory) (len : ℕ) → list_all is_plain line ≡ true → len + length line < 256 → Whole m
@@ -354,6 +354,6 @@ line_is_read (key ∷ line) rest m len plain short whole fits waits =
     let room : len < 255 = omega (arith, short) in
     subst (IsRead (key ∷ line) rest m len) (sym (goes_on m len key line rest is room whole fits waits))
     (one_more m len key line rest is room whole fits waits _
-    (line_is_read line rest (behind m len key line rest is room whole fits waits) (len + 1) two.1 (omega (arith, short))
+    (line_is_read line rest (following m len key line rest is room whole fits waits) (len + 1) two.1 (omega (arith, short))
     (behind_whole m len key line rest is room whole fits waits) (behind_fits m len key line rest is room whole fits waits)
     (behind_keys m len key line rest is room whole fits waits)))

@@ -55,9 +55,9 @@ range_bytes cells left width fits bytes c = by (cases_lt c width)
     by (inl inside) =
         let is = range-at cells left (left + width) c (left + c) 0 fits (omega arith) (omega (arith, inside)) in
         omega (arith, is, bytes (left + c))
-    by (inr behind) =
+    by (inr following) =
         let is = get_or_past (slice_range cells left (left + width)) c 0
-        (omega (arith, range_long cells left width fits, behind)) in
+        (omega (arith, range_long cells left width fits, following)) in
         omega (arith, is)
 
 blanks_bytes : (n : ℕ) → AreBytes (replicate n blank)
@@ -65,8 +65,8 @@ blanks_bytes n c = by (cases_lt c n)
   where
     by : (c < n) ⊎ (n ≤ c) → slice_index (replicate n blank) c < 256
     by (inl inside) = let is = get_or-replicate n c blank 0 inside in omega (arith, is)
-    by (inr behind) =
-        let is = get_or_past (replicate n blank) c 0 (omega (arith, length-replicate n blank, behind)) in omega (arith, is)
+    by (inr following) =
+        let is = get_or_past (replicate n blank) c 0 (omega (arith, length-replicate n blank, following)) in omega (arith, is)
 
 blank_bytes : (w : Window) → AreBytes (blank_part w)
 blank_bytes w = blanks_bytes w.width

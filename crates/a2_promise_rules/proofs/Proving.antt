@@ -45,7 +45,7 @@ stands code pc s w Q at is_s d reaches = subst (λ v. Reaches code v Q) same rea
     }
 
 -- back at the top of a loop, with a smaller measure
-pub record Again (pc s : ℕ) (Inv : World → Type 0) (measure : World → ℕ) (m : ℕ) (u : World) : Type 0 where
+pub record BackAtTop (pc s : ℕ) (Inv : World → Type 0) (measure : World → ℕ) (m : ℕ) (u : World) : Type 0 where
   pub pc_is : u.registers.pc ≡ pc
   pub s_is : u.registers.s ≡ s
   pub d_is : u.registers.flags.d ≡ false
@@ -54,7 +54,7 @@ pub record Again (pc s : ℕ) (Inv : World → Type 0) (measure : World → ℕ)
 
 -- a loop, given an invariant at its top and a measure that decreases
 pub loops : (code : Code) (pc s : ℕ) (Inv : World → Type 0) (measure : World → ℕ) (Q : World → Type 0)
-    → ((v : World) → Inv v → Reaches code (enter pc s v) (λ u. Again pc s Inv measure (measure v) u ⊎ Q u))
+    → ((v : World) → Inv v → Reaches code (enter pc s v) (λ u. BackAtTop pc s Inv measure (measure v) u ⊎ Q u))
     → (v : World) → Inv v → Reaches code (enter pc s v) Q
 loops code pc s Inv measure Q once v inv = go (suc (measure v)) v (omega arith) inv
   where
@@ -62,7 +62,7 @@ loops code pc s Inv measure Q once v inv = go (suc (measure v)) v (omega arith) 
     join w u n walk reaches = onto code w u n Q walk reaches
 
     next : (v : World) → ((u : World) → measure u < measure v → Inv u → Reaches code (enter pc s u) Q)
-        → Reaches code (enter pc s v) (λ u. Again pc s Inv measure (measure v) u ⊎ Q u) → Reaches code (enter pc s v) Q
+        → Reaches code (enter pc s v) (λ u. BackAtTop pc s Inv measure (measure v) u ⊎ Q u) → Reaches code (enter pc s v) Q
     next v later (n, (u, walk, inr q)) = (n, (u, walk, q))
     next v later (n, (u, walk, inl again)) =
         join (enter pc s v) u n walk (stands code pc s u Q again.pc_is again.s_is again.d_is (later u again.less again.invariant))
@@ -72,14 +72,14 @@ loops code pc s Inv measure Q once v inv = go (suc (measure v)) v (omega arith) 
     go (suc bound) v h inv = next v (λ u less i. go bound u (omega (arith, less, h)) i) (once v inv)
 
 -- a call of a routine that meets its contract, and what follows
-pub call : (code : Code) (to s behind : ℕ) (Before : World → Type 0) (After : World → World → Type 0) (Q : World → Type 0)
-    → Meets code to s Before After → (v : World) → IsWhole v → Before v → home s v ≡ behind
-    → ((u : World) → After v u → Reaches code (enter behind (s + 2) u) Q) → Reaches code (enter to s v) Q
-call code to s behind Before After Q meets v bytes before home_is later = go (meets v bytes before)
+pub call : (code : Code) (to s following : ℕ) (Before : World → Type 0) (After : World → World → Type 0) (Q : World → Type 0)
+    → Meets code to s Before After → (v : World) → IsWhole v → Before v → home s v ≡ following
+    → ((u : World) → After v u → Reaches code (enter following (s + 2) u) Q) → Reaches code (enter to s v) Q
+call code to s following Before After Q meets v bytes before home_is later = go (meets v bytes before)
   where
     at_last : (u : World) (back_at : World) → Back code s v back_at u → After v u → Reaches code u Q
     at_last u back_at back after =
-        stands code behind (s + 2) u Q (ap (λ r. r.pc) back.registers ∙ back.home ∙ home_is) (ap (λ r. r.s) back.registers)
+        stands code following (s + 2) u Q (ap (λ r. r.pc) back.registers ∙ back.home ∙ home_is) (ap (λ r. r.s) back.registers)
         (ap (λ r. r.flags.d) back.registers ∙ back.decimal) (later u after)
 
     go : Reaches code (enter to s v) (λ u. (last : World) × Back code s v u last × After v last) → Reaches code (enter to s v) Q

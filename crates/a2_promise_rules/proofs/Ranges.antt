@@ -142,12 +142,12 @@ passes_not allowed (range ∷ more) a all out = by (nat_le range.0 a && nat_le a
     by false is rest = ap₂ (λ x y. x || y) is rest
 
 -- what is unchanged outside some ranges: up to a middle memory, and then after it
-pub leaves_behind : (memory middle : Memory) (ranges inner : List (ℕ × ℕ)) (taken more : List ℕ) (v : World)
+pub leaves_further : (memory middle : Memory) (ranges inner : List (ℕ × ℕ)) (taken more : List ℕ) (v : World)
     → Leaves middle (is_in inner) more v → list_all (has_range ranges) inner ≡ true
     → Leaves memory (is_in ranges) taken (entered 0 middle) → Leaves memory (is_in ranges) (taken ++ more) v
-leaves_behind memory middle ranges inner taken more v behind all before = record {
-  bytes = λ a h. behind.bytes a (in_none_of ranges inner a all h) ∙ before.bytes a h;
-  keys = before.keys ∙ ap (λ keys. taken ++ keys) behind.keys ∙ sym (append_assoc taken more v.memory.devices.keys);
+leaves_further memory middle ranges inner taken more v following all before = record {
+  bytes = λ a h. following.bytes a (in_none_of ranges inner a all h) ∙ before.bytes a h;
+  keys = before.keys ∙ ap (λ keys. taken ++ keys) following.keys ∙ sym (append_assoc taken more v.memory.devices.keys);
 }
 
 -- a byte at an address of a range that is outside those that may change

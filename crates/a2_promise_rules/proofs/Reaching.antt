@@ -17,7 +17,7 @@ use Rattle.a2_cpu.specs.Stores.{stores_of}
 use Rattle.a2_services.specs.World.{World}
 use Rattle.a2_machine.specs.Meaning.{Code}
 use Rattle.a2_machine.proofs.Walks.{walked}
-use Rattle.a2_theorems.proofs.Stepping.{Stands, step}
+use Rattle.a2_theorems.proofs.Stepping.{IsAtPc, step}
 use Rattle.a2_theorems.proofs.Indexing.{reads_at, stores_at}
 
 -- the effect of an instruction on the byte that it reads, the byte that it stores, and the byte with which it replaces
@@ -67,7 +67,7 @@ changing row value at w = record {
   cycles = spent row value at w;
 }
 
-module _ (code : Code) (w : World) (row : Row) (value e at : ℕ) (stands : Stands code w (record { row = row; value = value }))
+module _ (code : Code) (w : World) (row : Row) (value e at : ℕ) (stands : IsAtPc code w (record { row = row; value = value }))
     (allowed : refusal_of row.mnemonic w.registers.flags ≡ None) where
   pub take : stores_of memory_access row value w ≡ []
       → performed memory_access row value w ≡ record {

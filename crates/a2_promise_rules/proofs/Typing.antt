@@ -22,7 +22,7 @@ use Rattle.a2_machine.proofs.Walks.{walked}
 use Rattle.a2_theorems.specs.Routines.{word}
 use Rattle.a2_theorems.proofs.Keeping.{after_stores}
 use Rattle.a2_theorems.proofs.Stepping.{serve}
-use Rattle.a2_promise_rules.proofs.Calling.{Behind, HasCursor, Left, Serves, cursor_test, in_stack, later, later_behind, later_whole, leave}
+use Rattle.a2_promise_rules.proofs.Calling.{AfterCall, HasCursor, Left, Serves, cursor_test, in_stack, later, later_behind, later_whole, leave}
 use Rattle.a2_promise_rules.proofs.Leaving.{Leaves, Waits}
 use Rattle.a2_promise_rules.proofs.Meeting.{IsWhole, Reaches, enter}
 use Rattle.a2_promise_rules.proofs.Printing.{base_fits, base_whole, printed_whole}
@@ -153,7 +153,7 @@ module _ (code : Code) (s : ℕ) (room : s < 254) (line : List ℕ) (plain : lis
       fits_there : CursorFits w.memory
       fits_there = fits_tells w.memory (cursor_test w cursor)
 
-      go : Waits (line ++ 0x0D ∷ []) w → Reaches code (enter 0xFD6A s w) (λ u. Behind s w u × LineTaken line w u)
+      go : Waits (line ++ 0x0D ∷ []) w → Reaches code (enter 0xFD6A s w) (λ u. AfterCall s w u × LineTaken line w u)
       go (rest, waits) =
           weaken code (enter 0xFD6A s w) _ _
           (leave code 0xFD6A s room Getln w whole refl refl free line_ranges not_reached (in_stack line_ranges refl) (line ++ 0x0D ∷ [])

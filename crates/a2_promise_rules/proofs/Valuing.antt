@@ -27,7 +27,7 @@ use Rattle.a2_promise.specs.Phrases.{Phrase, number, held, bound, old, at, of, p
 use Rattle.a2_theorems.specs.Routines.{word}
 use Rattle.a2_promise_rules.specs.Worlds.{OnlyBytes}
 use Rattle.a2_promise_rules.proofs.Bits.{digits_small}
-use Rattle.a2_promise_rules.proofs.Saying.{part, is_part, View, same, minus, joined, view, most_of, most, divides, both_plain, is_byte, in_range, may_join, counts, signed_view, size, summed, with_name, address, lowest, never_below}
+use Rattle.a2_promise_rules.proofs.PhraseMeanings.{part, is_part, View, same, minus, joined, view, most_of, most, divides, both_plain, is_byte, in_range, may_join, counts, signed_view, size, summed, with_name, address, lowest, never_below}
 
 -- Tests
 
@@ -399,15 +399,15 @@ word_counts : (v : World) (x : View) (top : ℕ) (o : Option ℤ) → ((a : ℕ)
 word_counts v x top o is_byte h low =
     let small = h.small in
     let here : x.plain < ram_end = omega (arith, small, low) in
-    let behind : x.plain + 1 < ram_end = omega (arith, small, low) in
-    let next : (x.plain + 1) % 65536 ≡ x.plain + 1 = omega (arith, behind) in
+    let following : x.plain + 1 < ram_end = omega (arith, small, low) in
+    let next : (x.plain + 1) % 65536 ≡ x.plain + 1 = omega (arith, following) in
     let first = is_byte x.plain in
     let second = is_byte (x.plain + 1) in
     counted (word v.memory x.plain) 65535 (made_of function.Word (bytes_of v.memory) o)
     (ap (λ z. made_of function.Word (bytes_of v.memory) z) h.is
     ∙ ap (λ a. word_at (bytes_of v.memory) a) (word_value_is x.plain 0 (omega (arith, here)))
     ∙ ap₂ word_value (memory_byte v.memory x.plain here)
-    (ap (λ a. slice_get (bytes_of v.memory) a) next ∙ memory_byte v.memory (x.plain + 1) behind)) (omega (arith, first, second))
+    (ap (λ a. slice_get (bytes_of v.memory) a) next ∙ memory_byte v.memory (x.plain + 1) following)) (omega (arith, first, second))
 
 not_byte : (n : ℕ) → 128 ≤ n → n < 256 → signed_byte (Some n) ≡ Some (pos n -ℤ pos 256)
 not_byte n high low =

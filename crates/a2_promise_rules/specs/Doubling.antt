@@ -4,7 +4,7 @@ use Rattle.std.specs.List.{concat}
 use Rattle.a2_promise.specs.declared.expr.Atom.TheVariants as atom
 use Rattle.a2_promise.specs.declared.expr.Operation.TheVariants as operation
 use Rattle.a2_promise.specs.Phrases.{number, held, old, pair}
-use Rattle.a2_promise.specs.Told.{Terms, IsTold}
+use Rattle.a2_promise.specs.PromisedTerms.{Terms, IsPromisedBy}
 use Rattle.a2_promise_rules.specs.Promised.{lines_of_routines, IsProved}
 
 abbrev pub doubling : List ℕ
@@ -30,8 +30,8 @@ double = record {
 }
 
 -- its lines promise this, with three lines above the label
-abbrev pub DoublingTells : Type 0
-DoublingTells = IsTold (lines_of_routines doubling) ((codes "DOUBLE", 0x300) ∷ []) 3 (codes "DOUBLE") double
+abbrev pub DoublingStates : Type 0
+DoublingStates = IsPromisedBy (lines_of_routines doubling) ((codes "DOUBLE", 0x300) ∷ []) 3 (codes "DOUBLE") double
 
 abbrev pub DoublingIsProved : Type 0
 DoublingIsProved = IsProved doubling (codes "DOUBLE")

@@ -5,13 +5,13 @@
 //! CALLING.md shows how to use this crate.
 #![tactic(auto)]
 
-ghost use Rattle.a2_promise_rules.specs.Doubling.{DoublingIsProved, DoublingTells};
+ghost use Rattle.a2_promise_rules.specs.Doubling.{DoublingIsProved, DoublingStates};
 ghost use Rattle.a2_promise_rules.specs.Readings.{OneReadingFits};
 
 /// A theorem, and no code: in every world of bytes in which A is below 128, the routine of `doubling` doubles A and
 /// changes nothing else. The lines of the routine promise exactly this.
 pub fn doubling_is_proved()
-    ensures told { DoublingTells }
+    ensures told { DoublingStates }
     ensures kept { DoublingIsProved }
 {}
 

@@ -31,14 +31,14 @@ prompted prompt = carriage_return ∷ shown prompt
 
 -- what GETLN prints after the echo of a byte that does not end the line, and then the new length of the line, given
 -- its old one
-abbrev pub behind_echo : ℕ → ℕ → ℕ → List ℕ
-behind_echo prompt byte len =
+abbrev pub after_echo : ℕ → ℕ → ℕ → List ℕ
+after_echo prompt byte len =
     if byte == backspace then (if len == 0 then prompted prompt else [])
     else if byte == cancel || len == 255 then backslash ∷ prompted prompt
     else []
 
-abbrev pub length_behind : ℕ → ℕ → ℕ
-length_behind byte len = if byte == backspace then len - 1 else if byte == cancel || len == 255 then 0 else len + 1
+abbrev pub length_after : ℕ → ℕ → ℕ
+length_after byte len = if byte == backspace then len - 1 else if byte == cancel || len == 255 then 0 else len + 1
 
 -- what is printed while keys are typed into a line that already has this many bytes, up to and including the RETURN
 abbrev pub line_printed : ℕ → List ℕ → ℕ → List ℕ
@@ -46,7 +46,7 @@ line_printed prompt [] len = []
 line_printed prompt (key ∷ keys) len =
     let byte = echo_of key in
     if byte == carriage_return then carriage_return ∷ []
-    else shown byte ++ (behind_echo prompt byte len ++ line_printed prompt keys (length_behind byte len))
+    else shown byte ++ (after_echo prompt byte len ++ line_printed prompt keys (length_after byte len))
 
 -- What a service prints: the bytes it prints that are characters, before INVFLG masks them. COUT and CROUT are hooks;
 -- if they lead to COUT1, COUT1 does the printing.
@@ -66,8 +66,8 @@ abbrev pub bytes_of_texts : List Text → List ℕ
 bytes_of_texts texts = flat_map (λ text. map (λ c. 128 + c % 128) text.characters.items) texts
 
 -- these bytes are what a promise says is printed: exactly those of its texts, if it says anything about printing
-abbrev pub PrintsSo : Texts → List ℕ → Type 0
-PrintsSo texts printed = (texts.prints.items ≡ []) ⊎ (printed ≡ bytes_of_texts texts.prints.items)
+abbrev pub PrintsAsPromised : Texts → List ℕ → Type 0
+PrintsAsPromised texts printed = (texts.prints.items ≡ []) ⊎ (printed ≡ bytes_of_texts texts.prints.items)
 
 -- a promise says nothing about printing or keys
 pub record HasNoText (texts : Texts) : Type 0 where

@@ -1,11 +1,11 @@
 //! Finds which part of a promise a run does not keep.
 
 use crate::exit::{Exit, TrialRun};
-use crate::printing::prints_so;
+use crate::printing::prints_as_promised;
 use crate::trial_machine::TrialMachine;
 use a2_bus::Bus;
 use a2_cpu::Regs;
-use a2_promise::{Changes, Clause, Expr, Operation, Promise, Sight, Text, Visit, value_in};
+use a2_promise::{Changes, Clause, Expr, Operation, Promise, StateView, Text, Visit, value_in};
 use a2_promise_certify::{Input, NO_NAMES, is_own_stack, may_change, number_of, sight_of};
 use std::alloc::{AllocError, Global};
 
@@ -43,8 +43,8 @@ pub enum Broken {
 // one that is false.
 fn sides(
     expr: &Expr,
-    entry: &Sight<Global>,
-    exit: &Sight<Global>,
+    entry: &StateView<Global>,
+    exit: &StateView<Global>,
     visits: &[Visit<Global>],
 ) -> Option<(i64, i64)> {
     match expr {
@@ -68,8 +68,8 @@ fn sides(
 /// Returns the first clause that is not met.
 pub(crate) fn broken_line(
     clauses: &[Clause],
-    entry: &Sight<Global>,
-    exit: &Sight<Global>,
+    entry: &StateView<Global>,
+    exit: &StateView<Global>,
     visits: &[Visit<Global>],
 ) -> Option<Broken> {
     for clause in clauses {
@@ -84,15 +84,15 @@ pub(crate) fn broken_line(
 }
 
 // Returns a register that differs from before but must not.
-fn broken_register(changes: &Changes, before: &Regs, behind: &Regs) -> Option<Broken> {
+fn broken_register(changes: &Changes, before: &Regs, following: &Regs) -> Option<Broken> {
     let registers = [
-        (Input::A, changes.a, before.a, behind.a),
-        (Input::X, changes.x, before.x, behind.x),
-        (Input::Y, changes.y, before.y, behind.y),
+        (Input::A, changes.a, before.a, following.a),
+        (Input::X, changes.x, before.x, following.x),
+        (Input::Y, changes.y, before.y, following.y),
     ];
-    for (register, may, before, behind) in registers {
-        if !may && before != behind {
-            return Some(Broken::Register(register, before, behind));
+    for (register, may, before, following) in registers {
+        if !may && before != following {
+            return Some(Broken::Register(register, before, following));
         }
     }
     None
@@ -121,7 +121,7 @@ fn unprinted(texts: &[Text], printed: &[u8]) -> usize {
     for (index, text) in texts.iter().enumerate() {
         for character in &text.characters {
             match rest {
-                [byte, behind @ ..] if *byte == 128 + *character % 128 => rest = behind,
+                [byte, following @ ..] if *byte == 128 + *character % 128 => rest = following,
                 _ => return index,
             }
         }
@@ -132,7 +132,7 @@ fn unprinted(texts: &[Text], printed: &[u8]) -> usize {
 // Returns the part of a promise about texts and keys that is not kept.
 fn broken_text(promise: &Promise, machine: &TrialMachine) -> Result<Option<Broken>, AllocError> {
     let printed = machine.printed.as_slice();
-    if !prints_so(machine.alloc, &promise.texts, printed)? {
+    if !prints_as_promised(machine.alloc, &promise.texts, printed)? {
         let index = unprinted(promise.texts.prints.as_slice(), printed);
         return Ok(Some(Broken::Prints(index)));
     }
@@ -154,8 +154,8 @@ pub(crate) fn broken_by(
         return Ok(Some(Broken::Left(run.exit)));
     }
     let entry = sight_of(&regs, &machine.before, 0, 0);
-    let behind = sight_of(&run.regs, &machine.now, run.cycles, run.steps);
-    if let Some(broken) = broken_line(promise.promised.as_slice(), &entry, &behind, &[]) {
+    let following = sight_of(&run.regs, &machine.now, run.cycles, run.steps);
+    if let Some(broken) = broken_line(promise.promised.as_slice(), &entry, &following, &[]) {
         return Ok(Some(broken));
     }
     if let Some(broken) = broken_text(promise, machine)? {

@@ -17,7 +17,7 @@ pub(crate) fn any_byte(number: u64) -> u8 {
 }
 
 // Returns whether the Monitor's services read an address: window, cursor, blocks, colour, mask, prompt and hooks.
-fn is_monitors(address: u16) -> bool {
+fn is_monitor_byte(address: u16) -> bool {
     matches!(address, WNDLFT..=CV | BASL..=BASH | H2..=V2 | COLOR | INVFLG..=PROMPT)
         || (CSW <= address && address <= KSW + 1)
 }
@@ -30,7 +30,7 @@ fn byte_at_entry(program: &Image<Global>, address: u16) -> Option<u8>
 {
     match program.get(address) {
         Some(byte) => Some(byte),
-        None if is_monitors(address) => None,
+        None if is_monitor_byte(address) => None,
         None => Some(any_byte(u64::from(address))),
     }
 }

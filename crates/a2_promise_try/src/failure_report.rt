@@ -10,7 +10,7 @@ use a2_hex::RAM_END;
 use a2_promise::{Clause, Promise, Text};
 use a2_promise_certify::Input;
 use a2_stream::{Output, WriteFault, put_all};
-use a2_text::{behind_blanks, hex_pair, hex_word};
+use a2_text::{after_blanks, hex_pair, hex_word};
 use std::alloc::Global;
 
 // Returns the address to report for an exit, if it has one.
@@ -24,50 +24,74 @@ fn address_of(exit: Exit) -> Option<u16> {
 }
 
 // Returns the message for an exit: the text before its address and the text after it.
-fn told_around(exit: Exit) -> (&'static str, &'static str) {
+fn exit_message(exit: Exit) -> (&'static str, &'static str) {
     match exit {
         Exit::Returned => ("it returns", ""),
-        Exit::Stack => ("it returns with another S than its caller left it", ""),
-        Exit::Elsewhere(_) => ("it goes to ", ", where no instruction of the source begins"),
-        Exit::Above(_) => ("it goes to ", ", above RAM, where no service is"),
-        Exit::Window(_) => (
-            "window, cursor or block lie otherwise than the service at ",
-            " needs: require what is left open",
+        Exit::Stack => (
+            "it returns with a different S; it must pull as many bytes as it pushes",
+            "",
         ),
-        Exit::Keys(_) => ("the service at ", " waits for a key, and none is typed"),
-        Exit::Code(_) => ("it would store at ", ", where its own code stands"),
-        Exit::Device(_) => ("it would store at ", ", above RAM"),
+        Exit::Elsewhere(_) => (
+            "it goes to ",
+            ", but no instruction of the source begins there; check that it ends with RTS",
+        ),
+        Exit::Above(_) => (
+            "it goes to ",
+            ", but no service begins there; services.md in the manual lists the services",
+        ),
+        Exit::Window(_) => (
+            "the window, cursor or block position is invalid for the service at ",
+            "; state what it needs in `requires`",
+        ),
+        Exit::Keys(_) => (
+            "the service at ",
+            " waits for a key, but no typed key is left; add one to `takes`",
+        ),
+        Exit::Code(_) => ("it would overwrite code at ", "; store to another address"),
+        Exit::Device(_) => (
+            "it would store at ",
+            ", which is above RAM; such a routine cannot be tried",
+        ),
         Exit::Read(_) => (
             "it would read ",
-            ", above RAM: what stands there is no part of a state",
+            ", which is above RAM; only the keyboard can be read there, with a `takes` line",
         ),
-        Exit::Brk => ("it comes to BRK", ""),
-        Exit::Decimal => ("it comes to ADC or SBC with D set", ""),
-        Exit::Endless => ("it does not return within 1,000,000 steps", ""),
+        Exit::Brk => (
+            "it reaches BRK, which does not return to the caller; use RTS",
+            "",
+        ),
+        Exit::Decimal => (
+            "it reaches ADC or SBC with D set; clear D with CLD first",
+            "",
+        ),
+        Exit::Endless => (
+            "it does not return within 1,000,000 steps; check that its loops end",
+            "",
+        ),
     }
 }
 
 // Writes how a routine leaves.
 fn put_exit<W: Output>(exit: Exit, output: &mut W) -> Result<(), WriteFault> {
-    let (before, behind) = told_around(exit);
+    let (before, following) = exit_message(exit);
     match address_of(exit) {
         Some(address) => put_address(before.as_bytes(), address, output)?,
         None => put_all(&[before.as_bytes()], output)?,
     }
-    put_all(&[behind.as_bytes()], output)
+    put_all(&[following.as_bytes()], output)
 }
 
 // Writes what has changed but must not.
 fn put_change<W: Output>(
     input: Input,
     before: u8,
-    behind: u8,
+    following: u8,
     output: &mut W,
 ) -> Result<(), WriteFault> {
     put_input(b"", input, output)?;
-    let words = b" does not stand behind changes, and is ";
-    put_number(words, u64::from(behind), b", before ", output)?;
-    put_number(b"", u64::from(before), b"", output)
+    put_number(b" changed from ", u64::from(before), b" to ", output)?;
+    let words = b" but is not listed in `changes`";
+    put_number(b"", u64::from(following), words, output)
 }
 
 // Writes the values of the comparison that decides.
@@ -75,7 +99,7 @@ fn put_sides<W: Output>(sides: Option<(i64, i64)>, output: &mut W) -> Result<(),
     let Some((left, right)) = sides else {
         return Ok(());
     };
-    put_signed(b"  compared are ", left, output)?;
+    put_signed(b"  the two sides are ", left, output)?;
     put_signed(b" and ", right, output)?;
     put_all(&[b"\n"], output)
 }
@@ -113,10 +137,12 @@ fn put_line_claim<W: Output>(
     unmet: Unmet,
     output: &mut W,
 ) -> Result<(), WriteFault> {
+    let text = said_at(promise, line);
     if let Unmet::NoValue = unmet {
-        put_all(&[b"no value is there of "], output)?;
+        put_number(b"line ", line as u64, b" has no value: ", output)?;
+        return put_all(&[text], output);
     }
-    put_line(line, said_at(promise, line), output)
+    put_line(line, text, output)
 }
 
 // Writes on one line which text is not printed.
@@ -144,14 +170,17 @@ pub(crate) fn put_claim<W: Output>(
         Broken::Line(line, unmet) => put_line_claim(promise, line, unmet, output),
         Broken::Prints(index) => put_text_claim(promise.texts.prints.as_slice(), index, output),
         Broken::Keys => {
-            put_all(&[b"it leaves keys that were typed: "], output)?;
+            put_all(
+                &[b"it does not take all typed keys; these are left: "],
+                output,
+            )?;
             put_text(failure.told.as_slice(), output)
         }
-        Broken::Register(register, before, behind) => {
-            put_change(register, before, behind, output)
+        Broken::Register(register, before, following) => {
+            put_change(register, before, following, output)
         }
-        Broken::Byte(address, before, behind) => {
-            put_change(Input::Byte(address), before, behind, output)
+        Broken::Byte(address, before, following) => {
+            put_change(Input::Byte(address), before, following, output)
         }
     }
 }
@@ -166,8 +195,8 @@ fn put_reason<W: Output>(unmet: Unmet, output: &mut W) -> Result<(), WriteFault>
             put_all(&[b"\n"], output)
         }
         Unmet::NotLess(before, number) => {
-            put_signed(b"  it does not get less: it is ", number, output)?;
-            put_signed(b", before ", before, output)?;
+            put_signed(b"  it does not decrease: it was ", before, output)?;
+            put_signed(b" and is now ", number, output)?;
             put_all(&[b"\n"], output)
         }
     }
@@ -195,7 +224,7 @@ pub(crate) fn put_entry_state<W: Output>(
     output: &mut W,
 ) -> Result<(), WriteFault> {
     let mut is_any = false;
-    put_all(&[b"entered with"], output)?;
+    put_all(&[b"it starts with"], output)?;
     for (index, input) in failure.inputs.iter().enumerate() {
         let value = failure.values.as_slice().get(index).copied().unwrap_or(0);
         if index < failure.named || value != 0 {
@@ -205,7 +234,7 @@ pub(crate) fn put_entry_state<W: Output>(
         }
     }
     let rest: &[u8] = if is_any {
-        b", and 0 in other registers and flags"
+        b", and 0 in all other registers and flags"
     } else {
         b" 0 in all registers and flags"
     };
@@ -225,7 +254,7 @@ pub(crate) fn line_at(program: &Program<Global>, address: u16) -> usize {
 // Returns the text of a line by its number, without leading spaces.
 fn text_of<'a>(lines: &[&'a [u8]], number: usize) -> &'a [u8] {
     match lines.get(number.saturating_sub(1)) {
-        Some(line) => behind_blanks(*line),
+        Some(line) => after_blanks(*line),
         None => b"",
     }
 }

@@ -18,7 +18,7 @@ pub struct FirstFailure {
     pub failure: Failure,
     /// What fails, on one line as in the report: `ADD: FAILS: line 1: A = 3`.
     pub claim: Vec<u8>,
-    /// The state, on one line as in the report: `entered with A=1, and 0 in other registers and flags`.
+    /// The state, on one line as in the report: `it starts with A=1, and 0 in all other registers and flags`.
     pub entered: Vec<u8>,
 }
 

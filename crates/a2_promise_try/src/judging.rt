@@ -7,9 +7,9 @@ use crate::trying::try_promise;
 use crate::verdict::{PromiseVerdict, Trials};
 use a2_asm::Program;
 use a2_promise::{Found, Promise, promise_in, promises_of};
-use a2_run::RunFault;
+use a2_run::{AssembledText, RunFault};
 use a2_stream::Output;
-use a2_tests::{Asked, Verdict, asked_of, cases_of, is_asking, judge_source};
+use a2_tests::{NumberedLine, Verdict, begins_want_line, cases_of, judge_source, numbered_line};
 use a2_text::cut;
 use std::alloc::{AllocError, Global};
 
@@ -30,21 +30,21 @@ pub struct Judgement {
 #[derive(Drop)]
 struct PromiseLines<'a> {
     // The promise of the text's own run: the lines after `;:` that have the form of a WANT.
-    run: Vec<Asked<'a>>,
+    run: Vec<NumberedLine<'a>>,
     // All lines, with blank ones in place of those.
     others: Vec<&'a [u8]>,
 }
 
 // Separates the lines about the run from the others.
-fn parted<'a>(alloc: Global, lines: &[&'a [u8]]) -> Result<PromiseLines<'a>, AllocError> {
+fn split_lines<'a>(alloc: Global, lines: &[&'a [u8]]) -> Result<PromiseLines<'a>, AllocError> {
     let mut parts = PromiseLines {
         run: Vec::new(alloc),
         others: Vec::new(alloc),
     };
     for (index, line) in lines.iter().enumerate() {
         match promise_in(*line) {
-            Some(text) if is_asking(text) => {
-                parts.run.push(asked_of(index + 1, text))?;
+            Some(text) if begins_want_line(text) => {
+                parts.run.push(numbered_line(index + 1, text))?;
                 parts.others.push(b"")?;
             }
             _ => parts.others.push(*line)?,
@@ -111,8 +111,8 @@ fn judge_one<W: Output>(
 // Judges the promise of a text's own run.
 fn judge_run<W: Output>(
     alloc: Global,
-    text: &[u8],
-    run: &[Asked],
+    assembled: &AssembledText<'_>,
+    run: &[NumberedLine],
     judgement: &mut Judgement,
     output: &mut W,
 ) -> Result<(), RunFault> {
@@ -125,7 +125,7 @@ fn judge_run<W: Output>(
         return Ok(());
     }
     let cases = cases_of(alloc, run)?;
-    let verdicts = judge_source(alloc, cases.as_slice(), text)?;
+    let verdicts = judge_source(alloc, cases.as_slice(), assembled)?;
     for (case, verdict) in cases.iter().zip(&verdicts) {
         if !matches!(verdict, Verdict::Passed) {
             judgement.is_any_failed = true;
@@ -140,13 +140,13 @@ fn judge_run<W: Output>(
 /// write fails or memory runs out.
 pub fn judge_all<W: Output>(
     alloc: Global,
-    program: &Program<Global>,
-    text: &[u8],
+    assembled: &AssembledText<'_>,
     trials: Trials,
     output: &mut W,
 ) -> Result<Judgement, RunFault> {
-    let lines = cut(alloc, text)?;
-    let parts = parted(alloc, lines.as_slice())?;
+    let program = assembled.program();
+    let lines = cut(alloc, assembled.text())?;
+    let parts = split_lines(alloc, lines.as_slice())?;
     let found = promises_of(alloc, parts.others.as_slice(), program)?;
     let mut judgement = Judgement {
         promises: 0,
@@ -164,6 +164,12 @@ pub fn judge_all<W: Output>(
     for one in &found {
         judge_one(&routines, one, &mut judgement, output)?;
     }
-    judge_run(alloc, text, parts.run.as_slice(), &mut judgement, output)?;
+    judge_run(
+        alloc,
+        assembled,
+        parts.run.as_slice(),
+        &mut judgement,
+        output,
+    )?;
     Ok(judgement)
 }

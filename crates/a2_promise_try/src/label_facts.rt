@@ -5,7 +5,7 @@ use crate::exit::TrialRun;
 use crate::trial_machine::TrialMachine;
 use a2_bus::AddressSpace;
 use a2_cpu::Regs;
-use a2_promise::{Clause, Promise, Sight, Visit, Within, value_in};
+use a2_promise::{Clause, Promise, StateView, Visit, Within, value_in};
 use a2_promise_certify::{NO_NAMES, sight_of};
 use std::alloc::{AllocError, Global};
 
@@ -64,8 +64,8 @@ impl Tally {
         measures: &[Clause],
         first: usize,
         is_back: bool,
-        entry: &Sight<Global>,
-        here: &Sight<Global>,
+        entry: &StateView<Global>,
+        here: &StateView<Global>,
     ) -> Option<Broken> {
         let mut place = first;
         for measure in measures {

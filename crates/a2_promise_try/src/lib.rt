@@ -27,7 +27,7 @@ pub use exit::{Exit, FallThrough, TracedStep};
 pub use failure_machine::machine_at_entry;
 pub use first_failure::FirstFailure;
 pub use judging::{Judgement, judge_all};
-pub use printing::{prints_so, push_printed};
+pub use printing::{prints_as_promised, push_printed};
 pub use report::{put_refusal, put_verdict};
 pub use trying::try_promise;
 pub use verdict::{Failure, Held, PromiseVerdict, Trials};

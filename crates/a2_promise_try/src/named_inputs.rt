@@ -95,8 +95,12 @@ fn add_corners(named: &mut Named, number: i64) -> Result<(), AllocError> {
 }
 
 // Adds an input that an expression names. In the state after the routine, only an input that does not change counts.
-fn add_named(named: &mut Named, input: Input, behind: Option<&Changes>) -> Result<(), AllocError> {
-    match behind {
+fn add_named(
+    named: &mut Named,
+    input: Input,
+    following: Option<&Changes>,
+) -> Result<(), AllocError> {
+    match following {
         Some(changes) if !is_kept(changes, input) => Ok(()),
         _ => add(&mut named.inputs, input),
     }
@@ -107,41 +111,45 @@ fn add_bytes(
     named: &mut Named,
     address: i64,
     count: u8,
-    behind: Option<&Changes>,
+    following: Option<&Changes>,
 ) -> Result<(), AllocError> {
     for further in 0..count {
         let place = address.saturating_add(i64::from(further));
         if 0 <= place && place < i64::from(RAM_END) {
-            add_named(named, Input::Byte(place as u16), behind)?;
+            add_named(named, Input::Byte(place as u16), following)?;
         }
     }
     Ok(())
 }
 
 // Adds the inputs that an expression names, at the entry, or after the routine with these changes.
-fn search_in(named: &mut Named, expr: &Expr, behind: Option<&Changes>) -> Result<(), AllocError> {
+fn search_in(
+    named: &mut Named,
+    expr: &Expr,
+    following: Option<&Changes>,
+) -> Result<(), AllocError> {
     match expr {
         Expr::Number(number) => add_corners(named, *number),
         // The value at a label is not an input of the promise's own clauses.
         Expr::Bound(_) | Expr::At(_, _) => Ok(()),
         Expr::Held(atom) => match input_of(*atom) {
-            Some(input) => add_named(named, input, behind),
+            Some(input) => add_named(named, input, following),
             None => Ok(()),
         },
         Expr::Old(within) => search_in(named, within, None),
         Expr::Of(function, of) => match (function, number_of(of)) {
-            (Function::Byte, Some(address)) => add_bytes(named, address, 1, behind),
-            (Function::Word, Some(address)) => add_bytes(named, address, 2, behind),
-            _ => search_in(named, of, behind),
+            (Function::Byte, Some(address)) => add_bytes(named, address, 1, following),
+            (Function::Word, Some(address)) => add_bytes(named, address, 2, following),
+            _ => search_in(named, of, following),
         },
         Expr::Pair(_, left, right) | Expr::Each(_, left, right) | Expr::Sum(_, left, right) => {
-            search_in(named, left, behind)?;
-            search_in(named, right, behind)
+            search_in(named, left, following)?;
+            search_in(named, right, following)
         }
         Expr::Choice(by, one, other) => {
-            search_in(named, by, behind)?;
-            search_in(named, one, behind)?;
-            search_in(named, other, behind)
+            search_in(named, by, following)?;
+            search_in(named, one, following)?;
+            search_in(named, other, following)
         }
     }
 }

@@ -42,8 +42,13 @@ fn push_prompt(printed: &mut Vec<u8>, prompt: u8) -> Result<(), AllocError>
 }
 
 // Adds what is printed after the echo of a byte, if the line has this many bytes before it.
-fn push_behind(printed: &mut Vec<u8>, prompt: u8, byte: u8, length: u8) -> Result<(), AllocError>
-    ensures { OnOk result (printed.new.items ≡ printed.old.items ++ said.behind_echo prompt byte length) }
+fn push_after_echo(
+    printed: &mut Vec<u8>,
+    prompt: u8,
+    byte: u8,
+    length: u8,
+) -> Result<(), AllocError>
+    ensures { OnOk result (printed.new.items ≡ printed.old.items ++ said.after_echo prompt byte length) }
 {
     if byte == BACKSPACE {
         if length > 0 {
@@ -59,8 +64,8 @@ fn push_behind(printed: &mut Vec<u8>, prompt: u8, byte: u8, length: u8) -> Resul
 }
 
 // Returns the length of the line after a byte.
-fn length_behind(byte: u8, length: u8) -> u8
-    ensures { result ≡ said.length_behind byte length }
+fn length_after(byte: u8, length: u8) -> u8
+    ensures { result ≡ said.length_after byte length }
 {
     if byte == BACKSPACE {
         length.saturating_sub(1)
@@ -84,8 +89,8 @@ fn push_line(printed: &mut Vec<u8>, prompt: u8, keys: &[u8], length: u8) -> Resu
         return Ok(());
     }
     push_shown(printed, byte)?;
-    push_behind(printed, prompt, byte, length)?;
-    push_line(printed, prompt, rest, length_behind(byte, length))
+    push_after_echo(printed, prompt, byte, length)?;
+    push_line(printed, prompt, rest, length_after(byte, length))
 }
 
 // Returns the waiting keys.
@@ -159,8 +164,8 @@ fn bytes_of(alloc: Global, texts: &[Text]) -> Result<Vec<u8>, AllocError>
 
 /// Returns whether a run printed exactly what a promise says; true if the promise says nothing about printing. Fails
 /// only if memory runs out.
-pub fn prints_so(alloc: Global, texts: &Texts, printed: &[u8]) -> Result<bool, AllocError>
-    ensures { IfOk result (λ so. (so ≡ true) ↔ said.PrintsSo texts.now printed.now) }
+pub fn prints_as_promised(alloc: Global, texts: &Texts, printed: &[u8]) -> Result<bool, AllocError>
+    ensures { IfOk result (λ so. (so ≡ true) ↔ said.PrintsAsPromised texts.now printed.now) }
 {
     if texts.prints.is_empty() {
         return Ok(true);

@@ -13,7 +13,7 @@ use a2_stream::{Output, WriteFault, put_all};
 use std::alloc::Global;
 
 // How many inputs a report lists.
-const MOST_TOLD: usize = 8;
+const MAX_INPUTS_REPORTED: usize = 8;
 
 // Writes the inputs that are not settled, and how many more there are than are listed. Returns the number of inputs
 // that are not settled.
@@ -27,13 +27,13 @@ fn put_inputs<W: Output>(
         if settled_value(inputs, promise.wanted.as_slice(), *input).is_some() {
             continue;
         }
-        if count < MOST_TOLD {
+        if count < MAX_INPUTS_REPORTED {
             let before: &[u8] = if count == 0 { b" of " } else { b", " };
             put_input(before, *input, output)?;
         }
         count = count.saturating_add(1);
     }
-    let more = count.saturating_sub(MOST_TOLD);
+    let more = count.saturating_sub(MAX_INPUTS_REPORTED);
     if more > 0 {
         put_number(b" and ", more as u64, b" more", output)?;
     }
@@ -42,11 +42,11 @@ fn put_inputs<W: Output>(
 
 // Writes that a promise holds in every state.
 fn put_holds<W: Output>(kept: u64, tried: u64, output: &mut W) -> Result<(), WriteFault> {
-    put_all(&[b"HOLDS in every state ("], output)?;
+    put_grouped(b"HOLDS in every state (", tried, b" tried", output)?;
     if kept != tried {
-        put_grouped(b"", kept, b" that it requires, of ", output)?;
+        put_grouped(b"; `requires` allows ", kept, b"", output)?;
     }
-    put_grouped(b"", tried, b" tried)\n", output)
+    put_all(&[b")\n"], output)
 }
 
 // Writes in how many states a promise held, and whether these are all states.
@@ -64,15 +64,15 @@ fn put_count<W: Output>(kept: u64, is_all: bool, output: &mut W) -> Result<(), W
 fn put_held<W: Output>(promise: &Promise, held: &Held, output: &mut W) -> Result<(), WriteFault> {
     let inputs = held.inputs.as_slice();
     if inputs.is_empty() {
-        let behind = b" states: it looks at nothing at its entry\n";
-        return put_grouped(b"held in ", LEAST_TRIED, behind, output);
+        let following = b" states; it uses no values from its caller\n";
+        return put_grouped(b"held in ", LEAST_TRIED, following, output);
     }
     put_count(held.kept, held.tried == held.total, output)?;
     let free = put_inputs(promise, inputs, output)?;
     if held.kept != held.tried {
-        put_grouped(b" that it requires, of ", held.tried, b" tried", output)?;
+        put_grouped(b" that `requires` allows (", held.tried, b" tried)", output)?;
     } else if free == 0 {
-        put_all(&[b" that it requires"], output)?;
+        put_all(&[b" that `requires` allows"], output)?;
     }
     if held.tried != held.total {
         put_total(held.total, output)?;
@@ -83,9 +83,12 @@ fn put_held<W: Output>(promise: &Promise, held: &Held, output: &mut W) -> Result
 // Writes how many states there are.
 fn put_total<W: Output>(total: u64, output: &mut W) -> Result<(), WriteFault> {
     if total == u64::MAX {
-        put_all(&[b"; there are more than 18 quintillion"], output)
+        put_all(
+            &[b"; there are more than 18 quintillion states in all"],
+            output,
+        )
     } else {
-        put_grouped(b"; there are ", total, b"", output)
+        put_grouped(b"; there are ", total, b" states in all", output)
     }
 }
 
@@ -102,22 +105,25 @@ fn put_fall_through<W: Output>(
     put_number(
         b"  line ",
         from,
-        b" goes on into the routine of line ",
+        b" continues into the routine in line ",
         output,
     )?;
-    let behind = b", which it does not call: RTS ends a routine, JSR calls one\n";
-    put_number(b"", to, behind, output)
+    let following = b" without a call; end a routine with RTS, or call the other one with JSR\n";
+    put_number(b"", to, following, output)
 }
 
 // Writes that no state tried satisfies the requirements of a promise.
 fn put_no_state<W: Output>(tried: u64, output: &mut W) -> Result<(), WriteFault> {
     put_all(&[b"FAILS: "], output)?;
     if tried == 1 {
-        put_all(&[b"the one state that was tried is not"], output)?;
+        put_all(&[b"the one state tried does not satisfy"], output)?;
     } else {
-        put_grouped(b"none of ", tried, b" states is", output)?;
+        put_grouped(b"none of ", tried, b" states satisfies", output)?;
     }
-    put_all(&[b" as it requires, so it promises nothing\n"], output)
+    put_all(
+        &[b" `requires`, so the promise was not tested; make `requires` allow more\n"],
+        output,
+    )
 }
 
 /// Writes the verdict on a promise, for a source with these lines.
@@ -156,7 +162,7 @@ pub fn put_refusal<W: Output>(
         put_all(&[name, b": "], output)?;
     }
     let (line, column) = (refusal.line as u64, refusal.column as u64);
-    put_number(b"REFUSED: line ", line, b", column ", output)?;
+    put_number(b"ERROR: line ", line, b", column ", output)?;
     put_number(b"", column, b": ", output)?;
     put_all(&[refusal.says.as_bytes(), b"\n"], output)
 }

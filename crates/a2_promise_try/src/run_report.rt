@@ -1,25 +1,28 @@
 //! Writes the report on the promises of a source's own run.
 
 use a2_stream::{Output, WriteFault, put_all};
-use a2_tests::{Asked, Line, Verdict};
+use a2_tests::{Line, NOT_CALLED, NumberedLine, Verdict};
 use a2_text::decimal;
 use std::alloc::Global;
 
 // Writes why a line about a run cannot be understood.
-fn put_unknown<W: Output>(asked: &Asked, output: &mut W) -> Result<(), WriteFault> {
+fn put_unknown<W: Output>(asked: &NumberedLine, output: &mut W) -> Result<(), WriteFault> {
     let number = decimal(asked.number as u64);
     put_all(
         &[
-            b"the run: REFUSED: line ",
+            b"the run: ERROR: line ",
             number.as_slice(),
-            b": no line of a run has this form (class.md has them)\n",
+            b": unknown kind of line; class.md in the manual lists what a run can promise\n",
         ],
         output,
     )
 }
 
 /// Writes an error for each line about a run that cannot be understood. Returns whether all can be.
-pub(crate) fn are_known<W: Output>(run: &[Asked], output: &mut W) -> Result<bool, WriteFault> {
+pub(crate) fn are_known<W: Output>(
+    run: &[NumberedLine],
+    output: &mut W,
+) -> Result<bool, WriteFault> {
     let mut known = true;
     for asked in run {
         if let Line::Unknown = asked.line {
@@ -50,6 +53,6 @@ pub(crate) fn put_run<W: Output>(
     match verdict {
         Verdict::Passed => put_all(&[b"held\n"], output),
         Verdict::Missed(line, told) => put_missed(*line, told.as_slice(), output),
-        Verdict::NotCalled => put_all(&[b"FAILS: its routine can't be called\n"], output),
+        Verdict::NotCalled => put_all(&[b"FAILS: ", NOT_CALLED, b"\n"], output),
     }
 }

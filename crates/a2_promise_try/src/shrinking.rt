@@ -8,7 +8,7 @@ use std::alloc::AllocError;
 
 // Lowers one value of a state that breaks the promise: to 0 if the promise is still broken, or otherwise, for a short
 // run, to the lowest value that breaks it.
-fn lessen(
+fn shrink_value(
     machine: &mut TrialMachine,
     promise: &Promise,
     inputs: &[Input],
@@ -32,25 +32,25 @@ fn lessen(
 }
 
 // A failure with more steps than this is reported as found, since lowering its values would take too long.
-const MOST_LESSENED: u32 = 20_000;
+const MAX_STEPS_TO_SHRINK: u32 = 20_000;
 
 // If steps times inputs exceed this number, 0 is the only lower value tried for each input.
-const MOST_LESSENED_BY_ONE: u64 = 200_000;
+const MAX_WORK_TO_SHRINK: u64 = 200_000;
 
 /// Lowers the values of a state that breaks the promise after this many steps.
-pub(crate) fn lessen_all(
+pub(crate) fn shrink_values(
     machine: &mut TrialMachine,
     promise: &Promise,
     inputs: &[Input],
     values: &mut [u8],
     steps: u32,
 ) -> Result<(), AllocError> {
-    if steps > MOST_LESSENED {
+    if steps > MAX_STEPS_TO_SHRINK {
         return Ok(());
     }
-    let is_short = u64::from(steps).saturating_mul(inputs.len() as u64) <= MOST_LESSENED_BY_ONE;
+    let is_short = u64::from(steps).saturating_mul(inputs.len() as u64) <= MAX_WORK_TO_SHRINK;
     for index in (0..inputs.len()).rev() {
-        lessen(machine, promise, inputs, values, index, is_short)?;
+        shrink_value(machine, promise, inputs, values, index, is_short)?;
     }
     Ok(())
 }

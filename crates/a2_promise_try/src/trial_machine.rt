@@ -26,7 +26,7 @@ use std::alloc::{AllocError, Global};
 pub(crate) const ROUTINE_MAX_STEPS: u32 = 1_000_000;
 
 /// The most inputs recorded that a routine reads and its promise does not name.
-pub(crate) const MAX_LOOKED: usize = 1024;
+pub(crate) const MAX_INPUTS_READ: usize = 1024;
 
 // No service stores at this address or above.
 const REACH_END: u16 = 0x0800;
@@ -194,7 +194,7 @@ impl TrialMachine {
 
     /// Sets the texts of a promise. What is printed is then recorded, and at most 4,096 keys wait when the routine is
     /// entered.
-    pub fn hear(&mut self, texts: &Texts) {
+    pub fn set_texts(&mut self, texts: &Texts) {
         self.is_heard = !texts.prints.is_empty();
         self.has_keys = !texts.takes.is_empty();
         // They fit, since no key is waiting yet.
@@ -274,8 +274,8 @@ impl TrialMachine {
     }
 
     // Records an input that was read before it was known.
-    fn note_look(&mut self, input: Input) -> Result<(), AllocError> {
-        if self.looked.len() < MAX_LOOKED {
+    fn record_input(&mut self, input: Input) -> Result<(), AllocError> {
+        if self.looked.len() < MAX_INPUTS_READ {
             add(&mut self.looked, input)?;
         }
         Ok(())
@@ -288,7 +288,7 @@ impl TrialMachine {
                 None if self.is_keyboard(*address) => {}
                 None => return Err(Stop::Left(Exit::Read(*address))),
                 Some(mark) if mark.is_known || is_set(self.set.marks(), *address) => {}
-                Some(_) => self.note_look(Input::Byte(*address))?,
+                Some(_) => self.record_input(Input::Byte(*address))?,
             }
         }
         Ok(())
@@ -300,14 +300,14 @@ impl TrialMachine {
             if !self.known_now.has(*part)
                 && let Some(input) = Input::of(*part)
             {
-                self.note_look(input)?;
+                self.record_input(input)?;
             }
         }
         Ok(())
     }
 
     // Records what an instruction reads and sets.
-    fn note_looks(&mut self, instr: Instr, regs: &Regs) -> Result<(), Stop> {
+    fn record_inputs_of(&mut self, instr: Instr, regs: &Regs) -> Result<(), Stop> {
         // No such instruction has a greater value. This is for the prover: the clauses of a program do not state it.
         if instr.mode == Mode::IndirectIndexed && instr.value > 255 {
             return Ok(());
@@ -354,8 +354,8 @@ impl TrialMachine {
     }
 
     // Executes an instruction, and adds its cycles.
-    fn do_instr(&mut self, instr: Instr, run: &mut TrialRun) -> Result<(), Stop> {
-        self.note_looks(instr, &run.regs)?;
+    fn execute_instr(&mut self, instr: Instr, run: &mut TrialRun) -> Result<(), Stop> {
+        self.record_inputs_of(instr, &run.regs)?;
         self.note_stores(&run.regs)?;
         let mut regs = run.regs;
         let refused = match step(&mut regs, &mut self.now) {
@@ -397,7 +397,7 @@ impl TrialMachine {
         }
         match self.mark(pc) {
             Some(mark) => match mark.instr {
-                Some(instr) => self.do_instr(instr, run),
+                Some(instr) => self.execute_instr(instr, run),
                 None => Err(Stop::Left(Exit::Elsewhere(pc))),
             },
             None => match service_at(pc) {
@@ -408,7 +408,7 @@ impl TrialMachine {
     }
 
     /// Executes a step, and adds its cycles. Returns false if the routine leaves instead; `run` then records how.
-    pub fn make_step(&mut self, run: &mut TrialRun) -> Result<bool, AllocError> {
+    pub fn execute_step(&mut self, run: &mut TrialRun) -> Result<bool, AllocError> {
         match self.go_on(run) {
             Ok(()) => Ok(true),
             Err(Stop::Left(exit)) => {
@@ -421,7 +421,7 @@ impl TrialMachine {
 }
 
 // How many of the last steps are reported.
-const TOLD: u32 = 8;
+const STEPS_REPORTED: u32 = 8;
 
 /// Returns the last steps of a run of this many steps. The run begins with these registers, and with RAM as at the
 /// entry.
@@ -434,10 +434,10 @@ pub(crate) fn last_steps(
     let mut told = Vec::new(machine.alloc);
     for left in (0..steps).rev() {
         let address = run.regs.pc;
-        if !machine.make_step(&mut run)? {
+        if !machine.execute_step(&mut run)? {
             return Ok(told);
         }
-        if left < TOLD {
+        if left < STEPS_REPORTED {
             told.push(TracedStep {
                 address,
                 regs: run.regs,

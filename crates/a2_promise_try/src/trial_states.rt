@@ -52,7 +52,7 @@ fn run_routine(
         if let Some(broken) = broken_within(promise, machine, &mut tally, regs, &run) {
             return Ok((run, Some(broken)));
         }
-        if !machine.make_step(&mut run)? {
+        if !machine.execute_step(&mut run)? {
             break;
         }
     }

@@ -9,8 +9,10 @@ ghost use Rattle.a2_promise_try.specs.Printing.{HasNoText};
 use crate::broken::Broken;
 use crate::named_inputs::{Inputs, inputs_of, named_by};
 use crate::printing::has_no_text;
-use crate::shrinking::lessen_all;
-use crate::trial_machine::{MAX_LOOKED, ROUTINE_MAX_STEPS, TrialMachine, keys_taken, last_steps};
+use crate::shrinking::shrink_values;
+use crate::trial_machine::{
+    MAX_INPUTS_READ, ROUTINE_MAX_STEPS, TrialMachine, keys_taken, last_steps,
+};
 use crate::trial_states::{Tried, enter, put_values, try_state};
 use crate::verdict::{Failure, Held, PromiseVerdict, Trials};
 use a2_asm::Program;
@@ -19,7 +21,7 @@ use a2_promise_certify::{Input, holds_in_every_state};
 use std::alloc::{AllocError, Global};
 
 // Returns the text to report for a failure: what was printed, or the keys that are left.
-fn told_of(machine: &TrialMachine, broken: Broken) -> Result<Vec<u8>, AllocError> {
+fn report_text(machine: &TrialMachine, broken: Broken) -> Result<Vec<u8>, AllocError> {
     let mut told = Vec::new(machine.alloc);
     match broken {
         Broken::Prints(_) => told.extend_from_slice(machine.printed.as_slice())?,
@@ -44,7 +46,7 @@ fn failure_of(
     let Tried::Broken(broken, run) = try_state(machine, promise, all, values)? else {
         return Ok(PromiseVerdict::NoState(0));
     };
-    let told = told_of(machine, broken)?;
+    let told = report_text(machine, broken)?;
     let regs = enter(machine, all, values, promise.address);
     let last = last_steps(machine, regs, run.steps)?;
     Ok(PromiseVerdict::Fails(Failure {
@@ -107,7 +109,7 @@ fn try_inputs(
             Tried::Kept if number < states => kept = kept.saturating_add(1),
             Tried::Kept | Tried::LeftOut => {}
             Tried::Broken(_, run) => {
-                lessen_all(machine, promise, all, values.as_mut_slice(), run.steps)?;
+                shrink_values(machine, promise, all, values.as_mut_slice(), run.steps)?;
                 return Ok(Some(failure_of(machine, promise, inputs, values.as_slice())?));
             }
         }
@@ -126,7 +128,7 @@ fn trial_machine_of(
     promise: &Promise,
 ) -> Result<TrialMachine, AllocError> {
     let mut machine = TrialMachine::new(alloc, program)?;
-    machine.hear(&promise.texts);
+    machine.set_texts(&promise.texts);
     for other in found {
         if let Found::Promise(other) = other
             && other.address != promise.address
@@ -146,7 +148,7 @@ fn try_states(
 ) -> Result<PromiseVerdict, AllocError> {
     let named = named_by(machine.alloc, program, promise)?;
     // Each round except the last finds at least one more input, and at most this many are recorded.
-    for _ in 0..=MAX_LOOKED {
+    for _ in 0..=MAX_INPUTS_READ {
         let inputs = inputs_of(
             machine.alloc,
             promise,

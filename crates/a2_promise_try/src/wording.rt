@@ -8,17 +8,17 @@ use a2_text::{decimal, hex_pair, hex_word};
 pub(crate) fn put_number<W: Output>(
     before: &[u8],
     number: u64,
-    behind: &[u8],
+    following: &[u8],
     output: &mut W,
 ) -> Result<(), WriteFault> {
-    put_all(&[before, decimal(number).as_slice(), behind], output)
+    put_all(&[before, decimal(number).as_slice(), following], output)
 }
 
 /// Writes a number between two texts, with a comma before each group of three digits.
 pub(crate) fn put_grouped<W: Output>(
     before: &[u8],
     number: u64,
-    behind: &[u8],
+    following: &[u8],
     output: &mut W,
 ) -> Result<(), WriteFault> {
     put_all(&[before], output)?;
@@ -31,7 +31,7 @@ pub(crate) fn put_grouped<W: Output>(
         }
         put_all(&[&[*digit]], output)?;
     }
-    put_all(&[behind], output)
+    put_all(&[following], output)
 }
 
 /// Writes a text followed by a number, which may be negative.

@@ -1,4 +1,4 @@
--- Each text has a refusal or a program, and each program its run and its object lines.
+-- Each text has an error or a program, and each program has its run and its object lines.
 use Rattle.std.proofs.Common.{refl, inl, inr}
 use Rattle.a2_hex.specs.Images.{held}
 use Rattle.a2_hex.specs.ObjectText.{object_text}

@@ -1,4 +1,4 @@
--- The free run of a text is its guarded one, where the guard stops nothing.
+-- The free run of a text is its guarded one, if the guard stops nothing.
 use Rattle.std.specs.Prelude.{ℕ, List, Some}
 use Rattle.std.proofs.Common.{subst, ◌∙◌}
 use Rattle.a2_asm.specs.Programs.{instr_at}

@@ -1,4 +1,4 @@
--- What a run writes is below 4,096 bytes.
+-- The output of a run has fewer than 4,096 bytes.
 use Rattle.std.specs.Prelude.{codes, Some, slice_index}
 use Rattle.std.specs.Fmt.{decimal}
 use Rattle.std.proofs.Common.{◌≡◌, ℕ, zero, suc, ◌*◌, ◌^◌, ◌<◌, ◌≤◌, Bool, true, false, if◌then◌else◌, List, [], ◌∷◌, ◌++◌, length, map, take, drop, ap, subst, arith, lit≤, lit<, length-append, length-take, length-drop}
@@ -142,7 +142,7 @@ output-few attr bus registers steps cycles cause s c =
       cause-few cause,
     )
 
--- A text that has room breaks off nowhere
+-- A text that has room is written whole
 pub never-broke : (old : Taker) (items : List ℕ) (failed : ℕ) (text : List ℕ) → old ≡ record { bytes = Some []; failures = 0 } → Breaks old (record { bytes = Some items; failures = failed }) text
     → (0 < failed → 4096 ≤ length items) → length text < 4096 → ⊥
 never-broke old items failed text is breaks full few = from (subst (λ o. Breaks o (record { bytes = Some items; failures = failed }) text) is breaks)

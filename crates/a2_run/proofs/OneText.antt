@@ -1,4 +1,4 @@
--- A text has one first refusal at most, and one run with its output; where it is refused, it has no program.
+-- A text has at most one first error, and one run with its output; if it has an error, it has no program.
 use Rattle.std.specs.Prelude.{◌≡◌, ℕ, Bool, true, false, List}
 use Rattle.std.proofs.Common.{refl, sym, ap, ◌∙◌, subst, inl, inr}
 use Rattle.a2_hex.specs.Images.{held}
@@ -6,8 +6,8 @@ use Rattle.a2_hex.specs.ObjectText.{object_text}
 use Rattle.a2_syntax.proofs.OneReading.{one-source, refused-none}
 use Rattle.a2_asm.specs.Assembled.{Assembled}
 use Rattle.a2_asm.specs.Programs.{IsProgram, AreAlike}
-use Rattle.a2_asm.specs.Refusals.{IsLayoutRefusal}
-use Rattle.a2_asm.proofs.MadeLaws.{one-layout_refusal, programs-alike}
+use Rattle.a2_asm.specs.Refusals.{IsLayoutError}
+use Rattle.a2_asm.proofs.MadeLaws.{one-layout_error, programs-alike}
 use Rattle.a2_asm.proofs.MadeLaws as asm
 use Rattle.a2_machine.specs.declared.causes.Cause.{Cause}
 use Rattle.a2_machine.specs.ProgramGuard.{guard_of_program}
@@ -18,7 +18,7 @@ use Rattle.a2_syntax.proofs.EachReading.{one-refusal}
 use Rattle.a2_run.specs.Laws.{OneRefusal, RefusedHasNoProgram, RefusedHasNoRun, RefusedHasNoObjectLines, OneCause, OneOutput, OneObjectText}
 use Rattle.a2_run.specs.Meaning.{IsProgramOf, IsRun, code_of_run, start_of_run, output_of}
 
--- a text has one program, but for how its image is kept
+-- a text has one program, except for how its image is stored
 pub alike : (text : List ℕ) (p q : Assembled) → IsProgramOf text p → IsProgramOf text q → AreAlike p q
 alike text p q a b = programs-alike b.source p q (subst (λ s. IsProgram s p) (one-source text a.source b.source a.is_source b.is_source) a.is_program) b.is_program
 
@@ -47,7 +47,7 @@ one-output text keys limit options c d o u a b = a.output_is ∙ ap (λ e. outpu
 pub one-object-text : OneObjectText
 one-object-text text o u a b = a.output_is ∙ ap object_text (held-same a.program b.program (alike text a.program b.program a.is_program b.is_program)) ∙ sym b.output_is
 
--- a refused text has no program, no run and no object lines
+-- a text with an error has no program, no run and no object lines
 pub refused-no-program : RefusedHasNoProgram
 refused-no-program text f p (inl a) b = refused-none text f b.source a b.is_source
 refused-no-program text f p (inr (s, is, refused)) b =
@@ -59,10 +59,10 @@ refused-no-run text keys limit options f cause output a b = refused-no-program t
 pub refused-no-lines : RefusedHasNoObjectLines
 refused-no-lines text output f a b = refused-no-program text f b.program a b.is_program
 
--- a text has one first refusal
+-- a text has one first error
 pub first-refusal-one : OneRefusal
 first-refusal-one text f g (inl a) (inl b) = one-refusal text f g a b
 first-refusal-one text f g (inl a) (inr (s, is, refused)) = absurd (refused-none text f s a is)
 first-refusal-one text f g (inr (s, is, refused)) (inl b) = absurd (refused-none text g s b is)
 first-refusal-one text f g (inr (s, is, refused)) (inr (t, it, other)) =
-    one-layout_refusal t f g (subst (λ x. IsLayoutRefusal x f) (one-source text s t is it) refused) other
+    one-layout_error t f g (subst (λ x. IsLayoutError x f) (one-source text s t is it) refused) other

@@ -1,4 +1,4 @@
--- A fault of a source is its refusal, or want of memory.
+-- A fault of a source is its error, or lack of memory.
 use Rattle.std.specs.Prelude.{◌≡◌, ◌≢◌, ℕ, List}
 use Rattle.std.proofs.Common.{sym, subst}
 use Rattle.a2_syntax.specs.declared.fault.Fault.{Fault}

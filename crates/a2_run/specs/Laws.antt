@@ -1,4 +1,4 @@
--- Laws of what source texts mean: statements about the definitions of `Meaning.antt` alone, by name. This project's own.
+-- Laws about what source texts mean: named statements about the definitions of `Meaning.antt` only. This project's own.
 use Rattle.std.specs.Prelude.{◌≡◌, ◌≢◌, ℕ, true, false, List}
 use Rattle.a2_syntax.specs.declared.fault.Fault.{Fault}
 use Rattle.a2_asm.specs.Assembled.{Assembled}
@@ -7,32 +7,32 @@ use Rattle.a2_machine.specs.declared.causes.Cause.TheVariants.{CodeWrite, OffSta
 use Rattle.a2_run.specs.declared.Options.{Options}
 use Rattle.a2_run.specs.Meaning.{IsProgramOf, IsRefused, IsRun, AreObjectLines}
 
--- where a text's guarded run ends by neither CODE WRITE nor OFF STATEMENT, its free run has the same cause and output
+-- if a text's guarded run ends neither by CODE WRITE nor by OFF STATEMENT, its free run has the same cause and output
 abbrev pub FreeRunsAreGuardedRuns : Type 0
 FreeRunsAreGuardedRuns =
     (text keys : List ℕ) (limit : ℕ) (options : Options) (cause : Cause) (output : List ℕ)
     → IsRun text keys limit (record options { free = false }) cause output → cause ≢ CodeWrite → cause ≢ OffStatement
     → IsRun text keys limit (record options { free = true }) cause output
 
--- a text has one first refusal at most
+-- a text has at most one first error
 abbrev pub OneRefusal : Type 0
 OneRefusal = (text : List ℕ) (fault other : Fault) → IsRefused text fault → IsRefused text other → fault ≡ other
 
--- a refused text has no program
+-- a text with an error has no program
 abbrev pub RefusedHasNoProgram : Type 0
 RefusedHasNoProgram = (text : List ℕ) (fault : Fault) (program : Assembled) → IsRefused text fault → IsProgramOf text program → ⊥
 
--- a refused text has no run
+-- a text with an error has no run
 abbrev pub RefusedHasNoRun : Type 0
 RefusedHasNoRun =
     (text keys : List ℕ) (limit : ℕ) (options : Options) (fault : Fault) (cause : Cause) (output : List ℕ)
     → IsRefused text fault → IsRun text keys limit options cause output → ⊥
 
--- a refused text has no object lines
+-- a text with an error has no object lines
 abbrev pub RefusedHasNoObjectLines : Type 0
 RefusedHasNoObjectLines = (text output : List ℕ) (fault : Fault) → IsRefused text fault → AreObjectLines text output → ⊥
 
--- no text is without a refusal and without a program
+-- every text has an error or a program
 abbrev pub RefusedOrProgram : Type 0
 RefusedOrProgram =
     (text : List ℕ) → ((fault : Fault) → IsRefused text fault → ⊥) → ((program : Assembled) → IsProgramOf text program → ⊥) → ⊥

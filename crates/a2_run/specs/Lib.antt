@@ -5,3 +5,4 @@ pub mod Status
 pub mod Started
 pub mod Laws
 pub mod Limits
+pub mod AssembledTexts

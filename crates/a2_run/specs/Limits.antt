@@ -1,8 +1,8 @@
--- The most steps of a run, as a word of a command line says it. This project's profile.
+-- The step limit of a run, as an argument of a command line gives it. This project's profile.
 use Rattle.std.specs.Prelude.{ℕ, ◌≤◌, List, length}
 use Rattle.std.specs.Str.Parse.{IsNumeral, digits_value}
 
--- the most steps where no word asks for another number
+-- the step limit if no argument gives another
 abbrev pub default_steps : ℕ
 default_steps = 1000000
 

@@ -1,10 +1,10 @@
--- How a fault is told. This project's profile.
+-- The text of a fault. This project's profile.
 use Rattle.std.specs.Prelude.{ℕ, List, codes}
 use Rattle.a2_syntax.specs.Texts.{fault_text}
 use Rattle.a2_run.specs.declared.fault.RunFault.{RunFault}
 use Rattle.a2_run.specs.declared.fault.RunFault.TheVariants.{Source, Script, Read, Write, Memory}
 
--- the text of a refusal, of a source or of a script; or what failed
+-- the text of an error in a source or a script, or what failed
 abbrev pub run_fault_text : RunFault → List ℕ
 run_fault_text (Source fault) = fault_text fault
 run_fault_text (Script fault) = fault_text fault

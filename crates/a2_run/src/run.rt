@@ -1,4 +1,4 @@
-//! A text in, a text out.
+//! Runs or assembles the text of a reader.
 
 ghost use Rattle.std.specs.Prelude.{◌≡◌, IfOk, IfSome, take};
 ghost use Rattle.a2_stream.specs.Stream.{count_after, TakesAtMost};
@@ -16,11 +16,11 @@ use a2_stream::{Input, Output, fill};
 use a2_syntax::Fault;
 use std::alloc::Allocator;
 
-/// The most bytes that are read: one more than a text may have.
+/// How many bytes are read at most: one more than a text may have.
 const MOST_READ: usize = 65_537;
 
-/// Reads a text up to its end, but at most `most` bytes, for which memory is taken at once. Refused where a read fails, and for
-/// want of memory.
+/// Reads a text up to its end, but at most `most` bytes, and allocates memory for all of these first. Fails if a read fails, or if
+/// there is not enough memory.
 pub fn read_front<A: Allocator + Copy, R: Input>(
     alloc: A,
     reader: &mut R,
@@ -37,8 +37,7 @@ pub fn read_front<A: Allocator + Copy, R: Input>(
     Ok(text)
 }
 
-/// Reads a text as [`read_front`] does, but at most 65,537 bytes: one more than a text may have, which shows that it is too
-/// long.
+/// Reads a text as [`read_front`] does, but at most 65,537 bytes: one more than a text may have, to show that it is too long.
 pub fn read_text<A: Allocator + Copy, R: Input>(
     alloc: A,
     reader: &mut R,
@@ -51,9 +50,9 @@ pub fn read_text<A: Allocator + Copy, R: Input>(
     read_front(alloc, reader, MOST_READ)
 }
 
-/// Assembles and runs the source that the reader gives, with these keys waiting, and writes the picture, the register
-/// line and the cause line, all by one write where the writer takes it. `limit` is the most steps. Refused where the source
-/// is, where a read or write fails, and for want of memory.
+/// Assembles and runs the source that the reader gives, with these keys waiting. Writes the picture, the register line and the cause
+/// line, all in one write if the writer accepts that. `limit` is the most steps. Fails if the source has an error, if a read or write
+/// fails, or if there is not enough memory.
 pub fn run_text<A: Allocator + Copy, R: Input, W: Output>(
     alloc: A,
     reader: &mut R,
@@ -67,11 +66,11 @@ pub fn run_text<A: Allocator + Copy, R: Input, W: Output>(
         Answers (OfSource (IsRefused input)) (IsRun input keys.now limit options) (W.taker writer.old) (W.taker writer.new) result) }
     // Nothing is read past the 65,537th byte.
     ensures front { TakesAtMost 65537 (R.giver reader.old) (R.giver reader.new) }
-    // And all is read up to there, but where a read fails, or memory is wanting.
+    // And everything up to there is read, unless a read fails or there is not enough memory.
     ensures through { RestsOnTexts result → LeavesBehind 65537 (R.giver reader.old) (R.giver reader.new) }
-    // Whatever the reader gives, a fault other than of the writer means that nothing was written.
+    // Whatever the reader gives, any fault except one of the writer means that nothing was written.
     ensures silent { NothingSent (W.taker writer.old) (W.taker writer.new) result }
-    // A fault of the reader or writer comes exactly where one of its calls failed.
+    // The fault is of the reader or writer if and only if one of its calls failed.
     ensures reader { (R.giver reader.new).failures ≡ count_after (is_read_fault result) (R.giver reader.old).failures }
     ensures writer { (W.taker writer.new).failures ≡ count_after (is_write_fault result) (W.taker writer.old).failures }
 {
@@ -79,8 +78,8 @@ pub fn run_text<A: Allocator + Copy, R: Input, W: Output>(
     run_source(alloc, text.as_slice(), keys, limit, options, writer)
 }
 
-/// Assembles the source that the reader gives and writes its object lines. Refused where the source is, where a read or
-/// write fails, and for want of memory.
+/// Assembles the source that the reader gives and writes its object lines. Fails if the source has an error, if a read or write fails,
+/// or if there is not enough memory.
 pub fn asm_text<A: Allocator + Copy, R: Input, W: Output>(
     alloc: A,
     reader: &mut R,
@@ -91,11 +90,11 @@ pub fn asm_text<A: Allocator + Copy, R: Input, W: Output>(
         Answers (OfSource (IsRefused input)) (λ _. AreObjectLines input) (W.taker writer.old) (W.taker writer.new) result) }
     // Nothing is read past the 65,537th byte.
     ensures front { TakesAtMost 65537 (R.giver reader.old) (R.giver reader.new) }
-    // And all is read up to there, but where a read fails, or memory is wanting.
+    // And everything up to there is read, unless a read fails or there is not enough memory.
     ensures through { RestsOnTexts result → LeavesBehind 65537 (R.giver reader.old) (R.giver reader.new) }
-    // Whatever the reader gives, a fault other than of the writer means that nothing was written.
+    // Whatever the reader gives, any fault except one of the writer means that nothing was written.
     ensures silent { NothingSent (W.taker writer.old) (W.taker writer.new) result }
-    // A fault of the reader or writer comes exactly where one of its calls failed.
+    // The fault is of the reader or writer if and only if one of its calls failed.
     ensures reader { (R.giver reader.new).failures ≡ count_after (is_read_fault result) (R.giver reader.old).failures }
     ensures writer { (W.taker writer.new).failures ≡ count_after (is_write_fault result) (W.taker writer.old).failures }
 {
@@ -103,7 +102,7 @@ pub fn asm_text<A: Allocator + Copy, R: Input, W: Output>(
     assemble_source(alloc, text.as_slice(), writer)
 }
 
-/// The status where a text has no answer: 1 for a refused source or script, 4 for a failed read or write, 5 for want of
+/// Returns the exit status for a fault: 1 for an error in a source or script, 4 for a failed read or write, 5 if there is not enough
 /// memory.
 pub fn fault_status(fault: &RunFault) -> u8
     ensures { result ≡ status_of_fault fault.now }
@@ -115,12 +114,12 @@ pub fn fault_status(fault: &RunFault) -> u8
     }
 }
 
-/// The status of a run's answer: 0 where the run came to its end by itself, 3 for another stop, and else that of the fault.
+/// Returns the exit status of a run: 0 if it ended by itself, 3 for another stop, and otherwise that of the fault.
 pub fn status(answer: &Result<Cause, RunFault>) -> u8
     ensures { result ≡ status_of answer.now }
 {
     match answer {
-        Ok(cause) if cause.is_own_end() => 0,
+        Ok(cause) if cause.is_normal_end() => 0,
         Ok(_) => 3,
         Err(fault) => fault_status(fault),
     }

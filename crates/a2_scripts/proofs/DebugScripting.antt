@@ -8,11 +8,11 @@ use Rattle.a2_stream.proofs.Joined.{Sends-nil}
 use Rattle.a2_syntax.specs.declared.fault.Fault.{Fault}
 use Rattle.a2_syntax.specs.declared.fault.Fault.TheVariants as refusal
 use Rattle.a2_text.specs.Lines.{lines}
-use Rattle.a2_syntax.specs.Limits.{size_refusal}
+use Rattle.a2_syntax.specs.Limits.{size_error}
 use Rattle.a2_asm.specs.Assembled.{Assembled}
 use Rattle.a2_debug_script.specs.declared.fault.DebugFault.{DebugFault}
 use Rattle.a2_debug_script.specs.declared.fault.DebugFault.TheVariants as debug
-use Rattle.a2_debug_script.specs.Stored.{Stored, NoneAbove, begun}
+use Rattle.a2_debug_script.specs.Stored.{Stored, NoneAbove, debugger_at_start}
 use Rattle.a2_debug_script.specs.Answers.{DebugLineAnswers}
 use Rattle.a2_debug_script.specs.Texts.{debug_fault_text}
 use Rattle.a2_debug_script.proofs.Total.{Met, met, answered_past, never_by_write}
@@ -22,7 +22,7 @@ use Rattle.a2_run.specs.Answers.{read_of, Answers}
 use Rattle.a2_run.specs.Meaning.{IsProgramOf}
 use Rattle.a2_scripts.specs.Replies.{AnswersEach, RepliesTo, AreReplied}
 use Rattle.a2_scripts.specs.Scripts.{script_fault}
-use Rattle.a2_scripts.specs.DebugScripts.{Meets, IsDebugText, IsDebugRefusal}
+use Rattle.a2_scripts.specs.DebugScripts.{Meets, IsDebugText, IsDebugError}
 use Rattle.a2_run.proofs.Reading.{source_of_read, program_of_read, Answers-wider}
 use Rattle.a2_scripts.proofs.Reading.{script_of_read, replies_of_read}
 
@@ -67,17 +67,17 @@ line_told line old new a b c why answer other (inr (is, broke)) sends = absurd (
 
 text_of_read : (source script output : List ℕ) → IsDebugText (read_of source) (read_of script) output → IsDebugText source script output
 text_of_read source script output is =
-    let (fits, answers) = replies_of_read Meets (codes ">") (begun is.program 0) script output (is.fits, is.answers) in
+    let (fits, answers) = replies_of_read Meets (codes ">") (debugger_at_start is.program 0) script output (is.fits, is.answers) in
     record { program = is.program; is_program = program_of_read source is.program is.is_program; fits = fits; answers = answers }
 
-refusal_of_read : (source script : List ℕ) (w : RunFault) → IsDebugRefusal (read_of source) (read_of script) w → IsDebugRefusal source script w
+refusal_of_read : (source script : List ℕ) (w : RunFault) → IsDebugError (read_of source) (read_of script) w → IsDebugError source script w
 refusal_of_read source script (Source fault) p = source_of_read source fault p
 refusal_of_read source script (Script fault) p = ((p.0.0, program_of_read source p.0.0 p.0.1), script_of_read script fault p.1)
 refusal_of_read source script _ p = p
 
 -- the results of a call for a source with a script
 abbrev pub AreAnswers : List ℕ → List ℕ → Taker → Taker → Result (Unit {0}) RunFault → Type 0
-AreAnswers source script a b r = Answers (IsDebugRefusal source script) (λ _. IsDebugText source script) a b r
+AreAnswers source script a b r = Answers (IsDebugError source script) (λ _. IsDebugText source script) a b r
 
 -- the meaning of what was read is the meaning of the inputs
 pub debug_of_inputs : (source script : Option (List ℕ)) (text lines slice slice' : List ℕ) (a b : Taker) (r : Result (Unit {0}) RunFault)
@@ -93,15 +93,15 @@ debug_of_inputs (Some source) (Some script) text lines slice slice' a b r e e' f
 -- The errors of the call
 
 pub refused_script : (source script : List ℕ) (program : Assembled) (a : Taker) (fault : Fault) (why : RunFault) → IsProgramOf source program
-    → (fault ≢ refusal.Memory → size_refusal script ≡ Some fault) → why ≡ script_fault fault → AreAnswers source script a a (Err why)
+    → (fault ≢ refusal.Memory → size_error script ≡ Some fault) → why ≡ script_fault fault → AreAnswers source script a a (Err why)
 refused_script source script program a fault why is h e = subst (λ (w : RunFault). AreAnswers source script a a (Err w)) (sym e) (go fault h)
   where
-    go : (f : Fault) → (f ≢ refusal.Memory → size_refusal script ≡ Some f) → AreAnswers source script a a (Err (script_fault f))
+    go : (f : Fault) → (f ≢ refusal.Memory → size_error script ≡ Some f) → AreAnswers source script a a (Err (script_fault f))
     go refusal.Memory told = Sends-nil a
     go _ told = (((program, is), told (λ e. cc)), Sends-nil a)
 
 pub script_broke : (source script : List ℕ) (program : Assembled) (cut : List (List ℕ)) (old : Stored) (a b : Taker) (r : Result (Unit {0}) RunFault)
-    → IsProgramOf source program → size_refusal script ≡ None → cut ≡ lines script → old ≡ begun program 0
+    → IsProgramOf source program → size_error script ≡ None → cut ≡ lines script → old ≡ debugger_at_start program 0
     → IsErr r → IsErrAnd r (λ why. why ≡ Write) → (output : List ℕ) × AreReplied Meets (codes ">") cut old output × Breaks a b output → AreAnswers source script a b r
 script_broke source script program cut old a b (Ok value) is fits same start err why h = cc
 script_broke source script program cut old a b (Err fault) is fits same start err why (output, are, breaks) =

@@ -2,22 +2,22 @@
 use Rattle.std.proofs.Common.{◌≡◌, ℕ, List, None, sym, ◌∙◌}
 use Rattle.a2_text.specs.Lines.{lines}
 use Rattle.a2_syntax.specs.declared.fault.Fault.{Fault}
-use Rattle.a2_syntax.specs.Limits.{size_refusal}
+use Rattle.a2_syntax.specs.Limits.{size_error}
 use Rattle.a2_run.specs.declared.fault.RunFault.{RunFault}
 use Rattle.a2_run.specs.declared.fault.RunFault.TheVariants.{Script}
 use Rattle.a2_run.specs.Answers.{read_of}
 use Rattle.a2_run.proofs.Reading.{of_read}
 use Rattle.a2_scripts.specs.Replies.{AreReplied}
-use Rattle.a2_scripts.specs.Scripts.{IsRefusedScript, OfScript}
+use Rattle.a2_scripts.specs.Scripts.{IsScriptError, OfScript}
 
-pub script_of_read : (script : List ℕ) (fault : Fault) → IsRefusedScript (read_of script) fault → IsRefusedScript script fault
-script_of_read script fault = of_read (λ script. IsRefusedScript script fault) script (λ front all h. all ∙ sym front ∙ h)
+pub script_of_read : (script : List ℕ) (fault : Fault) → IsScriptError (read_of script) fault → IsScriptError script fault
+script_of_read script fault = of_read (λ script. IsScriptError script fault) script (λ front all h. all ∙ sym front ∙ h)
 
 -- the lines of a script within the limits, with their replies
 pub replies_of_read : {S : Type 0} (Meets : List ℕ → S → List ℕ → S → Type 0) (mark : List ℕ) (old : S) (script output : List ℕ)
-    → (size_refusal (read_of script) ≡ None) × AreReplied Meets mark (lines (read_of script)) old output → (size_refusal script ≡ None) × AreReplied Meets mark (lines script) old output
+    → (size_error (read_of script) ≡ None) × AreReplied Meets mark (lines (read_of script)) old output → (size_error script ≡ None) × AreReplied Meets mark (lines script) old output
 replies_of_read Meets mark old script output =
-    of_read (λ script. (size_refusal script ≡ None) × AreReplied Meets mark (lines script) old output) script (λ front _ h. let fits = h.0 in cc)
+    of_read (λ script. (size_error script ≡ None) × AreReplied Meets mark (lines script) old output) script (λ front _ h. let fits = h.0 in cc)
 
 pub OfScript-wider : {refuses refuses' : Fault → Type 0} → ((f : Fault) → refuses f → refuses' f) → (w : RunFault) → OfScript refuses w → OfScript refuses' w
 OfScript-wider f (Script fault) p = f fault p

@@ -59,9 +59,9 @@ module _ {S : Type 0} {Meets : List ℕ → S → List ℕ → S → Type 0} {ma
     line = (get_or items i d).now
 
     -- with the text of the first line, whatever answers the others answers all
-    behind : (text rest : List ℕ) (next : S) → Meets line here text next → AreReplied Meets mark (drop (i + 1) (map now items)) next rest
+    following : (text rest : List ℕ) (next : S) → Meets line here text next → AreReplied Meets mark (drop (i + 1) (map now items)) next rest
         → AreReplied Meets mark (map now items) start (front.text ++ (echo mark line ++ (text ++ rest)))
-    behind text rest next meets are =
+    following text rest next meets are =
         let n = length-map items now in
         front.whole _ (rw (drop_more (map now items) i [] (omega (arith, n, low)), get_or-map now items i d [] low) (text, next, rest, meets, are, refl))
 
@@ -70,7 +70,7 @@ module _ {S : Type 0} {Meets : List ℕ → S → List ℕ → S → Type 0} {ma
     front-more {next = next} {c = c} {e = e} echoed (text, meets, sends) = record {
       text = front.text ++ (echo mark line ++ text);
       sent = Sends-then a b e front.text (echo mark line ++ text) front.sent (Sends-then b c e (echo mark line) text echoed sends);
-      whole = λ rest are. rw (append_assoc front.text (echo mark line ++ text) rest, append_assoc (echo mark line) text rest) (behind text rest next meets are);
+      whole = λ rest are. rw (append_assoc front.text (echo mark line ++ text) rest, append_assoc (echo mark line) text rest) (following text rest next meets are);
       holds = each.stays line here text next meets front.holds;
     }
 
@@ -81,7 +81,7 @@ module _ {S : Type 0} {Meets : List ℕ → S → List ℕ → S → Type 0} {ma
         let (text, next, meets) = each.text line here front.holds in
         let (rest, are) = all_met Meets mark P each (drop (i + 1) (map now items)) next (each.stays line here text next meets front.holds) in (
           front.text ++ (echo mark line ++ (text ++ rest)),
-          behind text rest next meets are,
+          following text rest next meets are,
           Breaks-then a b c front.text (echo mark line ++ (text ++ rest)) front.sent (Breaks-more b c (echo mark line) (text ++ rest) breaks),
         )
 
@@ -91,6 +91,6 @@ module _ {S : Type 0} {Meets : List ℕ → S → List ℕ → S → Type 0} {ma
     front-broke {next = next} {c = c} {e = e} (Err _) failed echoed (text, meets, breaks) =
         let (rest, are) = all_met Meets mark P each (drop (i + 1) (map now items)) next (each.stays line here text next meets front.holds) in (
           front.text ++ (echo mark line ++ (text ++ rest)),
-          behind text rest next meets are,
+          following text rest next meets are,
           Breaks-then a b e front.text (echo mark line ++ (text ++ rest)) front.sent (Breaks-then b c e (echo mark line) (text ++ rest) echoed (Breaks-more c e text rest breaks)),
         )

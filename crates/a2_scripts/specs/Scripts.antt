@@ -4,8 +4,8 @@ use Rattle.std.specs.Prelude.{◌≡◌, ℕ, List, codes, Some, None}
 use Rattle.a2_text.specs.Lines.{lines}
 use Rattle.a2_syntax.specs.declared.fault.Fault.{Fault}
 use Rattle.a2_syntax.specs.declared.fault.Fault.TheVariants as refusal
-use Rattle.a2_syntax.specs.Limits.{size_refusal}
-use Rattle.a2_monitor.specs.Sittings.{start_sitting}
+use Rattle.a2_syntax.specs.Limits.{size_error}
+use Rattle.a2_monitor.specs.SessionStates.{start_state}
 use Rattle.a2_monitor.specs.Replies.{IsReply}
 use Rattle.a2_run.specs.declared.fault.RunFault.{RunFault}
 use Rattle.a2_run.specs.declared.fault.RunFault.TheVariants.{Script, Memory}
@@ -17,12 +17,12 @@ OfScript refuses (Script fault) = refuses fault
 OfScript refuses _ = ⊥
 
 -- the script has this error, because of its size
-abbrev pub IsRefusedScript : List ℕ → Fault → Type 0
-IsRefusedScript script fault = size_refusal script ≡ Some fault
+abbrev pub IsScriptError : List ℕ → Fault → Type 0
+IsScriptError script fault = size_error script ≡ Some fault
 
 -- the script is within the limits, and this output answers its lines
 abbrev pub IsMonText : List ℕ → List ℕ → Type 0
-IsMonText script output = (size_refusal script ≡ None) × AreReplied IsReply (codes "*") (lines script) start_sitting output
+IsMonText script output = (size_error script ≡ None) × AreReplied IsReply (codes "*") (lines script) start_state output
 
 -- an error of a script; running out of memory is a separate error
 abbrev pub script_fault : Fault → RunFault

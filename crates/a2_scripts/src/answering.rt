@@ -6,7 +6,7 @@ ghost use Rattle.a2_scripts.specs.Replies.{AnswersEach, RepliesTo, RepliesToAll}
 use a2_stream::{Output, WriteFault, put_all};
 
 /// A type that answers the lines of a script: a session of the Monitor, or a debugger.
-pub trait Answering {
+pub trait LineAnswerer {
     /// The state that contracts see.
     ghost State: { Type 0 };
 
@@ -25,14 +25,14 @@ pub trait Answering {
 }
 
 /// Writes each line after `mark`, followed by its answer. Fails if a write fails; then a front of the text was sent.
-pub fn answer_all<S: Answering, W: Output>(
+pub fn answer_all<S: LineAnswerer, W: Output>(
     answering: &mut S,
     mark: &[u8],
     lines: &[&[u8]],
     writer: &mut W,
 ) -> Result<(), WriteFault>
     requires each { AnswersEach S.meets S.Holds }
-    requires begun { S.Holds (S.state answering.old) }
+    requires debugger_at_start { S.Holds (S.state answering.old) }
     ensures { RepliesToAll S.meets mark.now (map (λ x. x.now) lines.now) (S.state answering.old)
         (W.taker writer.old) (W.taker writer.new) result }
 {

@@ -1,11 +1,11 @@
-//! Answering a script of debugger lines for a source.
+//! LineAnswerer a script of debugger lines for a source.
 
 ghost use Rattle.std.specs.Prelude.{◌≡◌, false, IfOk};
-ghost use Rattle.a2_debug_script.specs.Stored.{begun};
+ghost use Rattle.a2_debug_script.specs.Stored.{debugger_at_start};
 ghost use Rattle.a2_run.specs.Answers.{Answers, is_read_fault};
-ghost use Rattle.a2_scripts.specs.DebugScripts.{IsDebugRefusal, IsDebugText};
+ghost use Rattle.a2_scripts.specs.DebugScripts.{IsDebugError, IsDebugText};
 
-use crate::answering::{Answering, answer_all};
+use crate::answering::{LineAnswerer, answer_all};
 use crate::scripts::refusal;
 use a2_asm::Program;
 use a2_debug_script::{DebugFault, Debugger};
@@ -15,7 +15,7 @@ use a2_stream::{Output, WriteFault, put_all};
 use a2_syntax::lines;
 use std::alloc::{AllocError, Allocator};
 
-impl<A: Allocator> Answering for Debugger<A> {
+impl<A: Allocator> LineAnswerer for Debugger<A> {
     ghost use Rattle.a2_debug_script.specs.Stored.{Stored, NoneAbove};
     ghost use Rattle.a2_scripts.specs.DebugScripts.{Meets};
 
@@ -41,7 +41,7 @@ impl<A: Allocator> Answering for Debugger<A> {
 
 // Returns a debugger of the program, at its start.
 fn opened<A: Allocator + Copy>(alloc: A, program: Program<A>) -> Result<Debugger<A>, AllocError>
-    ensures { IfOk result (λ debugger. debugger ≡ begun program 0) }
+    ensures { IfOk result (λ debugger. debugger ≡ debugger_at_start program 0) }
 {
     let machine = Machine::new(alloc)?;
     Debugger::new(alloc, machine, program).map_err(|_| AllocError)
@@ -54,7 +54,7 @@ pub fn debug_script<A: Allocator + Copy, W: Output>(
     script: &[u8],
     writer: &mut W,
 ) -> Result<(), RunFault>
-    ensures meaning { Answers (IsDebugRefusal source.now script.now) (λ _. IsDebugText source.now script.now) (W.taker writer.old)
+    ensures meaning { Answers (IsDebugError source.now script.now) (λ _. IsDebugText source.now script.now) (W.taker writer.old)
         (W.taker writer.new) result }
     ensures no_reader { is_read_fault result ≡ false }
 {

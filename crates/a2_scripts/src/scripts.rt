@@ -1,11 +1,11 @@
-//! Answering a script of Monitor lines.
+//! LineAnswerer a script of Monitor lines.
 
 ghost use Rattle.std.specs.Prelude.{◌≡◌, false, IfOk};
-ghost use Rattle.a2_monitor.specs.Sittings.{sitting_of, start_sitting};
+ghost use Rattle.a2_monitor.specs.SessionStates.{state_of_session, start_state};
 ghost use Rattle.a2_run.specs.Answers.{Answers, is_read_fault};
-ghost use Rattle.a2_scripts.specs.Scripts.{IsRefusedScript, IsMonText, OfScript, script_fault};
+ghost use Rattle.a2_scripts.specs.Scripts.{IsScriptError, IsMonText, OfScript, script_fault};
 
-use crate::answering::{Answering, answer_all};
+use crate::answering::{LineAnswerer, answer_all};
 use a2_machine::Machine;
 use a2_monitor::{MonFault, Session};
 use a2_run::RunFault;
@@ -23,13 +23,13 @@ pub fn refusal(fault: Fault) -> RunFault
     }
 }
 
-impl<A: Allocator> Answering for Session<A> {
-    ghost use Rattle.a2_monitor.specs.Sittings.{Sitting, sitting_of};
+impl<A: Allocator> LineAnswerer for Session<A> {
+    ghost use Rattle.a2_monitor.specs.SessionStates.{SessionState, state_of_session};
     ghost use Rattle.a2_monitor.specs.Replies.{IsReply};
 
-    ghost State = { Sitting };
+    ghost State = { SessionState };
 
-    ghost state = { sitting_of };
+    ghost state = { state_of_session };
 
     ghost meets = { IsReply };
 
@@ -48,7 +48,7 @@ impl<A: Allocator> Answering for Session<A> {
 
 // Returns a session at its start.
 fn opened<A: Allocator + Copy>(alloc: A) -> Result<Session<A>, AllocError>
-    ensures { IfOk result (λ session. sitting_of session ≡ start_sitting) }
+    ensures { IfOk result (λ session. state_of_session session ≡ start_state) }
 {
     let machine = Machine::new(alloc)?;
     Ok(Session::new(machine))
@@ -60,7 +60,7 @@ pub fn answer_script<A: Allocator + Copy, W: Output>(
     script: &[u8],
     writer: &mut W,
 ) -> Result<(), RunFault>
-    ensures meaning { Answers (OfScript (IsRefusedScript script.now)) (λ _. IsMonText script.now)
+    ensures meaning { Answers (OfScript (IsScriptError script.now)) (λ _. IsMonText script.now)
         (W.taker writer.old) (W.taker writer.new) result }
     ensures no_reader { is_read_fault result ≡ false }
 {

@@ -4,8 +4,8 @@ ghost use Rattle.std.specs.Prelude.{◌≡◌, IfSome};
 ghost use Rattle.a2_stream.specs.Stream.{count_after, TakesAtMost};
 ghost use Rattle.a2_run.specs.Answers.{Answers, LeavesBehind, RestsOnTexts, is_read_fault};
 ghost use Rattle.a2_run.specs.Answers.{is_write_fault, NothingSent};
-ghost use Rattle.a2_scripts.specs.Scripts.{IsMonText, IsRefusedScript, OfScript};
-ghost use Rattle.a2_scripts.specs.DebugScripts.{IsDebugRefusal, IsDebugText, ReadsFail};
+ghost use Rattle.a2_scripts.specs.Scripts.{IsMonText, IsScriptError, OfScript};
+ghost use Rattle.a2_scripts.specs.DebugScripts.{IsDebugError, IsDebugText, ReadsFail};
 
 use crate::debugging::debug_script;
 use crate::scripts::answer_script;
@@ -22,7 +22,7 @@ pub fn mon_text<A: Allocator + Copy, R: Input, W: Output>(
 ) -> Result<(), RunFault>
     // What is written is the meaning of what is read.
     ensures meaning { IfSome (R.giver reader.old).bytes (λ input.
-        Answers (OfScript (IsRefusedScript input)) (λ _. IsMonText input) (W.taker writer.old) (W.taker writer.new) result) }
+        Answers (OfScript (IsScriptError input)) (λ _. IsMonText input) (W.taker writer.old) (W.taker writer.new) result) }
     // Nothing is read after the 65,537th byte.
     ensures front { TakesAtMost 65537 (R.giver reader.old) (R.giver reader.new) }
     // Everything up to there is read, unless a read fails or memory runs out.
@@ -49,7 +49,7 @@ pub fn debug_text<A: Allocator + Copy, R: Input, S: Input, W: Output>(
 ) -> Result<(), RunFault>
     // What is written is the meaning of what is read.
     ensures meaning { IfSome (R.giver source.old).bytes (λ text. IfSome (S.giver script.old).bytes (λ lines.
-        Answers (IsDebugRefusal text lines) (λ _. IsDebugText text lines) (W.taker writer.old) (W.taker writer.new) result)) }
+        Answers (IsDebugError text lines) (λ _. IsDebugText text lines) (W.taker writer.old) (W.taker writer.new) result)) }
     // Nothing is read after the 65,537th byte of either text.
     ensures fronts { TakesAtMost 65537 (R.giver source.old) (R.giver source.new)
         × TakesAtMost 65537 (S.giver script.old) (S.giver script.new) }

@@ -12,13 +12,13 @@ use Rattle.a2_services.specs.declared.rows.Service.TheVariants.{Cout, Cout1, Cro
 use Rattle.a2_services.specs.World.{World}
 use Rattle.a2_services.specs.Put.{prompt_character, with_page1, after_put}
 use Rattle.a2_services.specs.Rows.{service_row}
-use Rattle.a2_services.specs.Services.{is_without, reach, output_reach, Reading, line_read, with_key_taken, back, effect, output, with_memory, with_a, with_x, served, cleared_to_end, cleared_below}
+use Rattle.a2_services.specs.Services.{needed_keys_missing, reach, output_reach, Reading, line_read, with_key_taken, back, effect, output, with_memory, with_a, with_x, served, cleared_to_end, cleared_below}
 use Rattle.a2_services.specs.Reading.{reading}
 use Rattle.a2_services.proofs.Lines.{ram_devices, put_devices}
 use Rattle.a2_services.proofs.Reaching.{IsOutside, outside_of, page1-kept, column-kept, row-kept, put-kept, base-kept, line_read-kept, returned-kept, output-kept}
 use Rattle.a2_services.proofs.Counting.{Fewer, fewer_taken, fewer_read, base_devices, returned_devices, same_fewer, output_devices, cleared_devices, left_devices}
 use Rattle.a2_services.proofs.Kept.{IsOffPage, IsOffBase, off_page, off_base, other_than, off_base-kept, off_page-cleared}
-use Rattle.a2_services.specs.Blocks.{painted, painted_across, painted_down, span_of, colour_of, black}
+use Rattle.a2_services.specs.Blocks.{painted, painted_across, painted_down, numbers_from_to, colour_of, black}
 
 -- painting blocks
 painted-kept : (b : ℕ) → IsOffPage b → (row column : ℕ) (m : Memory) → ram_byte (painted row column m) b ≡ ram_byte m b
@@ -106,12 +106,12 @@ effect-kept Plot world b h =
     returned-kept (with_memory (painted r.a r.y world.memory) world) b ∙ painted-kept b (off_page b h) r.a r.y world.memory
 effect-kept Hline world b h =
     let r = world.registers in
-    let columns = span_of r.y (ram_byte world.memory 0x2C) in
+    let columns = numbers_from_to r.y (ram_byte world.memory 0x2C) in
     returned-kept (with_memory (painted_across r.a columns world.memory) world) b
     ∙ steps-kept b (λ column m. painted r.a column m) (λ column m. painted-kept b (off_page b h) r.a column m) columns world.memory
 effect-kept Vline world b h =
     let r = world.registers in
-    let rows = span_of r.a (ram_byte world.memory 0x2D) in
+    let rows = numbers_from_to r.a (ram_byte world.memory 0x2D) in
     returned-kept (with_memory (painted_down rows r.y world.memory) world) b
     ∙ steps-kept b (λ row m. painted row r.y m) (λ row m. painted-kept b (off_page b h) row r.y m) rows world.memory
 effect-kept Scrn world b h =
@@ -130,7 +130,7 @@ unfolding served
 served-kept service world b h = effect-kept service world b h
 
 -- a service whose row needs no key leaves the devices unchanged
-pub effect_devices : (service : Service) (w : World) → is_without (service_row service).needs [] ≡ false
+pub effect_devices : (service : Service) (w : World) → needed_keys_missing (service_row service).needs [] ≡ false
     → (effect service w).memory.devices ≡ w.memory.devices
 unfolding effect
 effect_devices Cout w keyless = refl
@@ -150,11 +150,11 @@ effect_devices Wait w keyless = ap (λ (x : Memory). x.devices) (returned_device
 effect_devices Plot w keyless =
     left_devices (painted w.registers.a w.registers.y w.memory) w ∙ painted_devices w.registers.a w.registers.y w.memory
 effect_devices Hline w keyless =
-    let columns = span_of w.registers.y (ram_byte w.memory 0x2C) in
+    let columns = numbers_from_to w.registers.y (ram_byte w.memory 0x2C) in
     left_devices (painted_across w.registers.a columns w.memory) w
     ∙ steps_devices (λ column m. painted w.registers.a column m) (λ column m. painted_devices w.registers.a column m) columns w.memory
 effect_devices Vline w keyless =
-    let rows = span_of w.registers.a (ram_byte w.memory 0x2D) in
+    let rows = numbers_from_to w.registers.a (ram_byte w.memory 0x2D) in
     left_devices (painted_down rows w.registers.y w.memory) w
     ∙ steps_devices (λ row m. painted row w.registers.y m) (λ row m. painted_devices row w.registers.y m) rows w.memory
 effect_devices Scrn w keyless =

@@ -9,12 +9,12 @@ use Rattle.a2_services.specs.declared.rows.Service.{Service}
 use Rattle.a2_services.specs.Rows.{service_row}
 use Rattle.a2_services.specs.World.{World, world_of}
 use Rattle.a2_services.specs.Services.{fits, lacks_keys, cycles_of, effect, served}
-use Rattle.a2_services.specs.Called.{IsCallMade, IsDone}
+use Rattle.a2_services.specs.Called.{IsCallExecuted, IsDone}
 
 pub call_made : (service : Service) (live new_live : Live) (bus new_bus : BusState) (cycles : ℕ)
     → fits service (live_registers live) (memory_of bus) ≡ true → lacks_keys service (memory_of bus) ≡ false
     → cycles_of (service_row service).takes (live_registers live) ≡ cycles → IsDone service live bus new_live new_bus
-    → IsCallMade service (live_registers live) bus (live_registers new_live) new_bus cycles
+    → IsCallExecuted service (live_registers live) bus (live_registers new_live) new_bus cycles
 unfolding served
 call_made service live new_live bus new_bus cycles fitting keyed takes done = record {
   fitting = fitting;

@@ -9,13 +9,13 @@ use Rattle.a2_effect.specs.Registers.{Registers}
 use Rattle.a2_services.specs.declared.rows.Service.{Service}
 use Rattle.a2_services.specs.World.{World, world_of}
 use Rattle.a2_services.specs.Services.{served}
-use Rattle.a2_services.specs.Called.{IsUnreached}
+use Rattle.a2_services.specs.Called.{KeepsUnreachedBytes}
 use Rattle.a2_services.proofs.Effects.{served-kept, served_fewer}
 
 -- bytes outside the service's reach
 pub unreached_by : (service : Service) (registers : Registers) (bus : BusState) (new_registers : Registers) (new_bus : BusState) (cycles : ℕ)
     → length bus.bytes ≡ ram_end → length new_bus.bytes ≡ ram_end
-    → world_of new_registers new_bus (0 + cycles) ≡ served service (world_of registers bus 0) → IsUnreached service bus new_bus
+    → world_of new_registers new_bus (0 + cycles) ≡ served service (world_of registers bus 0) → KeepsUnreachedBytes service bus new_bus
 unreached_by service registers bus new_registers new_bus cycles size new_size made =
     λ a low out.
     byte_seen new_bus a new_size low

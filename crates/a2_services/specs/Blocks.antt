@@ -31,8 +31,8 @@ abbrev pub painted_down : List ℕ → ℕ → Memory → Memory
 painted_down rows column memory = fold (λ memory row. painted row column memory) memory rows
 
 -- the numbers from the first to the last, or only the first if the last is not greater
-abbrev pub span_of : ℕ → ℕ → List ℕ
-span_of first last = numbers_from first (last - first + 1)
+abbrev pub numbers_from_to : ℕ → ℕ → List ℕ
+numbers_from_to first last = numbers_from first (last - first + 1)
 
 -- page 1 with every block black
 abbrev pub black : Grid

@@ -16,8 +16,8 @@ use Rattle.a2_services.specs.World.{world_of}
 abbrev pub refused : Bool → Bool → Option Served
 refused fitting lacking = if not fitting then Some answer.Window else if lacking then Some answer.Keys else None
 
-abbrev pub service_refusal : Service → Registers → Memory → Option Served
-service_refusal service registers memory = refused (fits service registers memory) (lacks_keys service memory)
+abbrev pub service_unmet_need : Service → Registers → Memory → Option Served
+service_unmet_need service registers memory = refused (fits service registers memory) (lacks_keys service memory)
 
 -- the new registers and board are what the service leaves, apart from the cycles
 abbrev pub IsLeft : Service → Registers → BusState → Registers → BusState → Type 0
@@ -36,7 +36,7 @@ IsServed service registers bus new_registers new_bus cycles =
     (before : ℕ) → world_of new_registers new_bus (before + cycles) ≡ served service (world_of registers bus before)
 
 -- nothing was missing, and the call was executed
-pub record IsCallMade (service : Service) (registers : Registers) (bus : BusState) (new_registers : Registers) (new_bus : BusState)
+pub record IsCallExecuted (service : Service) (registers : Registers) (bus : BusState) (new_registers : Registers) (new_bus : BusState)
     (cycles : ℕ) : Type 0 where
   pub fitting : fits service registers (memory_of bus) ≡ true
   pub keyed : lacks_keys service (memory_of bus) ≡ false
@@ -50,7 +50,7 @@ pub record IsSame (registers : Registers) (bus : BusState) (new_registers : Regi
 -- the answer is Window exactly if window, cursor or blocks do not fit, and Keys exactly if they fit and keys are missing; in
 -- both cases nothing changed; otherwise the call was executed
 abbrev pub IsCalled : Service → Registers → BusState → Registers → BusState → Served → Type 0
-IsCalled service registers bus new_registers new_bus (answer.Next cycles) = IsCallMade service registers bus new_registers new_bus cycles
+IsCalled service registers bus new_registers new_bus (answer.Next cycles) = IsCallExecuted service registers bus new_registers new_bus cycles
 IsCalled service registers bus new_registers new_bus answer.Window =
     (fits service registers (memory_of bus) ≡ false) × IsSame registers bus new_registers new_bus
 IsCalled service registers bus new_registers new_bus answer.Keys =
@@ -69,6 +69,6 @@ OnUnserved answer.Window fact = fact
 OnUnserved answer.Keys fact = fact
 
 -- every byte of RAM outside the service's reach is unchanged
-abbrev pub IsUnreached : Service → BusState → BusState → Type 0
-IsUnreached service bus new_bus =
+abbrev pub KeepsUnreachedBytes : Service → BusState → BusState → Type 0
+KeepsUnreachedBytes service bus new_bus =
     (address : ℕ) → address < ram_end → reach service address ≡ false → slice_index new_bus.bytes address ≡ slice_index bus.bytes address

@@ -22,7 +22,7 @@ use Rattle.a2_services.specs.declared.rows.Takes.TheVariants as span
 use Rattle.a2_services.specs.Rows.{service_row, services}
 use Rattle.a2_services.specs.Bytes.{carriage_return, backspace, cancel, backslash, return_key, right_arrow_key}
 use Rattle.a2_services.specs.World.{World}
-use Rattle.a2_services.specs.Blocks.{painted, painted_across, painted_down, span_of, black}
+use Rattle.a2_services.specs.Blocks.{painted, painted_across, painted_down, numbers_from_to, black}
 use Rattle.a2_services.specs.Put.{window_of, cursor_column, cursor_row, with_cursor_column, with_cursor_row, screen_column, prompt_character, with_page1, after_put, after_put_unmasked, with_base_address}
 
 -- the service at an address, if any
@@ -46,32 +46,32 @@ abbrev pub block_fits : Registers → Bool
 block_fits registers = nat_lt registers.a 48 && nat_lt registers.y 40
 
 -- window, cursor and registers are as they are needed
-abbrev pub lies_right : Needs → Registers → Memory → Bool
-lies_right need.Window registers memory = window_fits memory
-lies_right need.Cursor registers memory = window_fits memory && cursor_fits memory
-lies_right need.Line registers memory = window_fits memory && cursor_fits memory
-lies_right need.Block registers memory = block_fits registers
-lies_right need.Across registers memory = block_fits registers && nat_lt (ram_byte memory at.h2) 40
-lies_right need.Down registers memory = block_fits registers && nat_lt (ram_byte memory at.v2) 48
-lies_right _ registers memory = true
+abbrev pub positions_fit : Needs → Registers → Memory → Bool
+positions_fit need.Window registers memory = window_fits memory
+positions_fit need.Cursor registers memory = window_fits memory && cursor_fits memory
+positions_fit need.Line registers memory = window_fits memory && cursor_fits memory
+positions_fit need.Block registers memory = block_fits registers
+positions_fit need.Across registers memory = block_fits registers && nat_lt (ram_byte memory at.h2) 40
+positions_fit need.Down registers memory = block_fits registers && nat_lt (ram_byte memory at.v2) 48
+positions_fit _ registers memory = true
 
 -- window, cursor and blocks are where the service needs them
 abbrev pub fits : Service → Registers → Memory → Bool
-fits service registers memory = lies_right (service_row service).needs registers memory
+fits service registers memory = positions_fit (service_row service).needs registers memory
 
 -- RETURN is among the keys
 abbrev pub has_return : List ℕ → Bool
 has_return keys = list_any (λ key. key == return_key) keys
 
 -- the needed keys are not waiting: a key, or a whole line
-abbrev pub is_without : Needs → List ℕ → Bool
-is_without need.Key keys = elim keys [ [] ↦ true | key ∷ rest ↦ false ]
-is_without need.Line keys = not (has_return keys)
-is_without _ keys = false
+abbrev pub needed_keys_missing : Needs → List ℕ → Bool
+needed_keys_missing need.Key keys = elim keys [ [] ↦ true | key ∷ rest ↦ false ]
+needed_keys_missing need.Line keys = not (has_return keys)
+needed_keys_missing _ keys = false
 
 -- keys that the service needs are missing
 abbrev pub lacks_keys : Service → Memory → Bool
-lacks_keys service memory = is_without (service_row service).needs memory.devices.keys
+lacks_keys service memory = needed_keys_missing (service_row service).needs memory.devices.keys
 
 -- Where a service may store
 
@@ -233,10 +233,10 @@ effect Wait world = back (with_a 0 world)
 effect Setcol world = back (with_memory (with_ram world.memory at.color (17 * (world.registers.a % 16))) world)
 effect Plot world = back (with_memory (painted world.registers.a world.registers.y world.memory) world)
 effect Hline world =
-    let columns = span_of world.registers.y (ram_byte world.memory at.h2) in
+    let columns = numbers_from_to world.registers.y (ram_byte world.memory at.h2) in
     back (with_memory (painted_across world.registers.a columns world.memory) world)
 effect Vline world =
-    let rows = span_of world.registers.a (ram_byte world.memory at.v2) in
+    let rows = numbers_from_to world.registers.a (ram_byte world.memory at.v2) in
     back (with_memory (painted_down rows world.registers.y world.memory) world)
 effect Scrn world = back (with_a (byte_in (blocks_of world.memory.page1) world.registers.a world.registers.y) world)
 effect Clrscr world = back (with_memory (with_ram (with_ram (with_page1 black world.memory) at.color 0) at.v2 47) world)

@@ -9,7 +9,7 @@ ghost use Rattle.a2_services.specs.declared.rows.Service.TheVariants.{Cout1, Hom
 ghost use Rattle.a2_services.specs.Put.{window_of};
 ghost use Rattle.a2_services.specs.Services.{fits as fits_of, lacks_keys as lacks_keys_of, cycles_of as cycles_by, wait_cycles as wait_cycles_of};
 ghost use Rattle.a2_services.specs.Fits.{CursorFits};
-ghost use Rattle.a2_services.specs.Called.{IsCalled, IsServed, IsDone, IsUnreached};
+ghost use Rattle.a2_services.specs.Called.{IsCalled, IsServed, IsDone, KeepsUnreachedBytes};
 
 use crate::blocks::{clrscr, hline, plot, scrn, setcol, vline};
 use crate::bytes::digit_byte;
@@ -49,7 +49,7 @@ pub fn call<A: Allocator>(service: Service, live: &mut Live, space: &mut Address
     ensures cycles { live.new.cycles ≡ live.old.cycles }
 
     // Only bytes in the service's `reach` can change.
-    ensures unreached { IsUnreached service space.old space.new }
+    ensures unreached { KeepsUnreachedBytes service space.old space.new }
 
     // The size of RAM is unchanged, and no key is added.
     ensures size { length space.new.bytes ≡ length space.old.bytes }
@@ -79,7 +79,7 @@ pub fn call<A: Allocator>(service: Service, live: &mut Live, space: &mut Address
         // Works on a copy: registers lent to a call would be kept in memory.
         _ => {
             let mut next = *live;
-            let answer = call_apart(service, &mut next, space);
+            let answer = call_outlined(service, &mut next, space);
             *live = next;
             answer
         }
@@ -89,14 +89,14 @@ pub fn call<A: Allocator>(service: Service, live: &mut Live, space: &mut Address
 // Handles a service that needs a lookup: calls it, or returns why it cannot be called.
 #[cold]
 #[inline(never)]
-fn call_apart<A: Allocator>(
+fn call_outlined<A: Allocator>(
     service: Service,
     live: &mut Live,
     space: &mut AddressSpace<A>,
 ) -> Served
     ensures called { IsCalled service (live_registers live.old) space.old (live_registers live.new) space.new result }
     ensures cycles { live.new.cycles ≡ live.old.cycles }
-    ensures unreached { IsUnreached service space.old space.new }
+    ensures unreached { KeepsUnreachedBytes service space.old space.new }
     ensures size { length space.new.bytes ≡ length space.old.bytes }
     ensures keys { length space.new.devices.keys ≤ length space.old.devices.keys }
 {

@@ -4,8 +4,8 @@ ghost use Rattle.std.specs.Prelude.{◌≡◌, length, not};
 ghost use Rattle.a2_bus.specs.View.{memory_of};
 ghost use Rattle.a2_bus.specs.Memory.{ram_end};
 ghost use Rattle.a2_effect.specs.Live.{live_registers};
-ghost use Rattle.a2_services.specs.Called.{service_refusal};
-ghost use Rattle.a2_services.specs.Services.{lies_right, is_without, block_fits as block_fits_of, window_fits as window_fits_of, cursor_fits as cursor_fits_of, has_return as has_return_of};
+ghost use Rattle.a2_services.specs.Called.{service_unmet_need};
+ghost use Rattle.a2_services.specs.Services.{positions_fit, needed_keys_missing, block_fits as block_fits_of, window_fits as window_fits_of, cursor_fits as cursor_fits_of, has_return as has_return_of};
 
 use crate::bytes::RETURN_KEY;
 use crate::line::first_key;
@@ -34,7 +34,7 @@ pub fn refusal<A: Allocator>(
     live: &Live,
     space: &AddressSpace<A>,
 ) -> Option<Served>
-    ensures answer { result ≡ service_refusal service (live_registers live.now) (memory_of space.now) }
+    ensures answer { result ≡ service_unmet_need service (live_registers live.now) (memory_of space.now) }
     ensures size { length space.now.bytes ≡ ram_end }
 {
     let needs = row_of(service).needs;
@@ -50,7 +50,7 @@ pub fn refusal<A: Allocator>(
 // Whether window, cursor and registers are as the service needs them.
 #[inline(always)]
 fn fits<A: Allocator>(needs: Needs, live: &Live, space: &AddressSpace<A>) -> bool
-    ensures answer { result ≡ lies_right needs (live_registers live.now) (memory_of space.now) }
+    ensures answer { result ≡ positions_fit needs (live_registers live.now) (memory_of space.now) }
     ensures size { length space.now.bytes ≡ ram_end }
 {
     // Only for the prover: this read shows how long RAM is.
@@ -99,7 +99,7 @@ pub(crate) fn cursor_fits<A: Allocator>(space: &AddressSpace<A>) -> bool
 #[inline(always)]
 #[tactic(auto, using(crate::proofs::Lines::lacks_unless, a2_bus::proofs::Viewing::devices_seen))]
 fn lacks_keys<A: Allocator>(needs: Needs, space: &AddressSpace<A>) -> bool
-    ensures { result ≡ is_without needs (memory_of space.now).devices.keys }
+    ensures { result ≡ needed_keys_missing needs (memory_of space.now).devices.keys }
 {
     match needs {
         Needs::Key => first_key(space).is_none(),

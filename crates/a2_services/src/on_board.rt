@@ -2,7 +2,7 @@
 
 ghost use Rattle.std.specs.Prelude.{◌≡◌, length};
 ghost use Rattle.a2_effect.specs.View.{spare_bits_of, registers_of};
-ghost use Rattle.a2_services.specs.Called.{IsCalled, IsUnreached, OnServed, OnUnserved};
+ghost use Rattle.a2_services.specs.Called.{IsCalled, KeepsUnreachedBytes, OnServed, OnUnserved};
 
 use crate::{Served, Service, live};
 use a2_bus::Board;
@@ -17,7 +17,7 @@ pub fn call<A: Allocator>(service: Service, regs: &mut Regs, board: &mut Board<A
     ensures called { IsCalled service (registers_of regs.old) board.old.bus (registers_of regs.new) board.new.bus result }
     ensures refused { OnUnserved result ((regs.new ≡ regs.old) × (board.new ≡ board.old)) }
     ensures spare { OnServed result (spare_bits_of regs.new.p ≡ 0) }
-    ensures unreached { IsUnreached service board.old.bus board.new.bus }
+    ensures unreached { KeepsUnreachedBytes service board.old.bus board.new.bus }
     ensures picture { board.new.picture ≡ board.old.picture }
     ensures size { length board.new.bus.bytes ≡ length board.old.bus.bytes }
 {

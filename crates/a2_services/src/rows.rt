@@ -1,5 +1,5 @@
-//! The services' rows: what each is, its name, where it is called, what it needs, where it may store, how long it takes, which
-//! registers it looks at and sets, and what it does on the screen.
+//! The table of services: the name and address of each, what it needs, where it may store, how long it takes, which registers
+//! it reads and sets, and what it does on the screen.
 
 ghost use Rattle.std.specs.Prelude.{◌≡◌, ◌≤◌, length};
 ghost use Rattle.a2_services.specs.Rows.{service_row as row_by, service_name as name_of};
@@ -7,85 +7,88 @@ ghost use Rattle.a2_services.specs.Services.{service_at as service_at_of};
 
 use a2_bus::locations::{COUT1, KEYIN};
 
-/// A service of the Monitor. A hook takes 5 cycles, WAIT as many as A says, each other 6 (this project's profile).
+/// A service of the Monitor. A hook takes 5 cycles, WAIT a number that depends on A, and every other service 6 (this project's
+/// profile).
 ///
-/// The output services are COUT1, HOME, PRBYTE, PRHEX and GETLN. They work in the window that $20 to $23 say (its left
-/// edge, width, top row and the row below its last), and each stores in $28 and $29, as it ends, the address of the
-/// window's left edge in the cursor's row. The cursor is column $24 of the window and row $25 of the screen.
+/// The output services are COUT1, HOME, PRBYTE, PRHEX and GETLN. They work in the window given by $20 to $23: its left edge,
+/// its width, its top row and the row below its last. When such a service ends, it stores the address of the window's left edge
+/// in the cursor's row at $28 and $29. The cursor is in column $24 of the window and in row $25 of the screen.
 ///
-/// Lo-res blocks stand on page 1 in 48 rows of 40. A block takes its colour from $30: the low four bits in rows 0, 2, 4 and
-/// so on, the high four in the others.
+/// Lo-res blocks lie on page 1 in 48 rows of 40. A block takes its colour from $30: the low four bits in rows 0, 2, 4 and so
+/// on, the high four bits in the other rows.
 #[derive(Clone, Copy, Debug, PartialEq, Eq)]
 pub enum Service {
-    /// COUT, $FDED, a hook: sends the character in A through the output hook. PC becomes the word at $36 and $37.
+    /// COUT, $FDED, a hook: sends the character in A through the output hook. PC becomes the 16-bit word at $36 and $37.
     Cout,
-    /// COUT1, $FDF0: puts the byte in A at the cursor. A byte from $A0 on is first masked by $32. $8D is a return, $8A a
-    /// line feed and $88 a backspace; other bytes from $80 to $9F do nothing.
+    /// COUT1, $FDF0: puts the byte in A at the cursor. A byte of $A0 or above is first masked with the byte at $32. $8D is a
+    /// return, $8A a line feed and $88 a backspace; other bytes from $80 to $9F do nothing.
     Cout1,
-    /// CROUT, $FD8E, a hook: sends a return through the output hook. A = $8D, and PC becomes the word at $36 and $37.
+    /// CROUT, $FD8E, a hook: sends a return through the output hook. A = $8D, and PC becomes the 16-bit word at $36 and $37.
     Crout,
-    /// HOME, $FC58: makes the window blank and puts the cursor at its top left.
+    /// HOME, $FC58: clears the window and puts the cursor at its top left.
     Home,
-    /// PRBYTE, $FDDA: puts the two hexadecimal digits of A, as capitals with bit 7 set.
+    /// PRBYTE, $FDDA: puts A as two hexadecimal digits, with capital letters and bit 7 set.
     Prbyte,
-    /// PRHEX, $FDE3: puts the hexadecimal digit of A's low four bits, as a capital with bit 7 set.
+    /// PRHEX, $FDE3: puts the low four bits of A as one hexadecimal digit, with capital letters and bit 7 set.
     Prhex,
-    /// SETINV, $FE80: makes text inverse from here on. $32 = $3F, under which characters are put.
+    /// SETINV, $FE80: makes the text that follows inverse. Stores $3F in $32, the mask that is applied to characters.
     Setinv,
-    /// SETNORM, $FE84: makes text normal from here on. $32 = $FF, under which characters are put as they are.
+    /// SETNORM, $FE84: makes the text that follows normal. Stores $FF in $32, the mask that leaves characters unchanged.
     Setnorm,
-    /// VTAB, $FC22: stores in $28 and $29 the address of the window's left edge in the cursor's row.
+    /// VTAB, $FC22: stores the address of the window's left edge in the cursor's row at $28 and $29.
     Vtab,
-    /// CLREOL, $FC9C: makes the cursor's row blank from the cursor to the window's right edge.
+    /// CLREOL, $FC9C: clears the cursor's row from the cursor to the window's right edge.
     Clreol,
-    /// CLREOP, $FC42: makes the window blank from the cursor on: the rest of its row and the rows below. Stores in $28 and
+    /// CLREOP, $FC42: clears the window from the cursor on: the rest of the cursor's row and the rows below. Stores in $28 and
     /// $29 as VTAB does.
     Clreop,
-    /// RDKEY, $FD0C, a hook: asks the input hook for a key. PC becomes the word at $38 and $39.
+    /// RDKEY, $FD0C, a hook: asks the input hook for a key. PC becomes the 16-bit word at $38 and $39.
     Rdkey,
-    /// KEYIN, $FD1B: takes the first waiting key; A = that key with bit 7 set.
+    /// KEYIN, $FD1B: takes the first waiting key and sets A to that key with bit 7 set.
     Keyin,
-    /// GETLN, $FD6A: puts the prompt of $33 and takes keys up to a return; the line is left at $0200, and X = its
-    /// length without the return. A key stands for itself with bit 7 set, the right arrow for the byte that the cursor
-    /// stands on, and a byte from $E0 on loses $20, so small letters become capitals. Keys are echoed unmasked. The
-    /// left arrow takes the last byte back, or where there is none puts a return and the prompt; control X, or the
-    /// 256th byte, puts `\`, a return and the prompt, and the line begins anew. The return makes the cursor's row blank
-    /// from the cursor to the window's right edge, and is put.
+    /// GETLN, $FD6A: puts the prompt stored in $33 and takes keys up to a return. It leaves the line at $0200 and sets X to its
+    /// length without the return.
+    ///
+    /// A key stands for its own code with bit 7 set, and the right arrow for the byte under the cursor. A byte of $E0 or above
+    /// loses $20, so small letters become capitals. Keys are echoed unmasked. The left arrow removes the last byte; on an empty
+    /// line it puts a return and the prompt. Control X, or the 256th byte, puts `\`, a return and the prompt, and the line
+    /// starts again. The return clears the cursor's row from the cursor to the window's right edge and is then put itself.
     Getln,
-    /// WAIT, $FCA8: lets time pass. A = 0, after (14 + 27a + 5a²) / 2 cycles, where a is A before the call; after 167,293 where a
-    /// is 0.
+    /// WAIT, $FCA8: waits and sets A to 0. It takes (14 + 27a + 5a²) / 2 cycles, where a is A before the call, or 167,293
+    /// cycles if a is 0.
     Wait,
-    /// SETCOL, $F864: sets the colour of blocks, in all rows. $30 = 17 times A's low four bits.
+    /// SETCOL, $F864: sets the colour of blocks in all rows. $30 = 17 times the low four bits of A.
     Setcol,
-    /// PLOT, $F800: colours the block of row A and column Y.
+    /// PLOT, $F800: colours the block in row A, column Y.
     Plot,
-    /// HLINE, $F819: colours the blocks of row A from column Y to the column in $2C, or to Y where that is greater.
+    /// HLINE, $F819: colours the blocks in row A from column Y to the column in $2C, or only the one in column Y if that is
+    /// greater.
     Hline,
-    /// VLINE, $F828: colours the blocks of column Y from row A to the row in $2D, or to A where that is greater.
+    /// VLINE, $F828: colours the blocks in column Y from row A to the row in $2D, or only the one in row A if that is greater.
     Vline,
-    /// SCRN, $F871: gives in A the colour, 0 to 15, of the block of row A and column Y.
+    /// SCRN, $F871: sets A to the colour, 0 to 15, of the block in row A, column Y.
     Scrn,
     /// CLRSCR, $F832: makes all blocks black. $30 = 0 and $2D = 47.
     Clrscr,
 }
 
-/// What a service needs of window, cursor, keys and registers.
+/// What a service needs of the window, the cursor, the keys and the registers.
 #[derive(Clone, Copy)]
 pub enum Needs {
     Nothing,
-    /// The window on the screen.
+    /// A window that lies on the screen.
     Window,
-    /// Window and cursor on the screen.
+    /// A window and a cursor that lie on the screen.
     Cursor,
-    /// A key.
+    /// A waiting key.
     Key,
-    /// Window and cursor on the screen, and a line of keys.
+    /// A window and a cursor that lie on the screen, and a waiting line of keys.
     Line,
-    /// A row of blocks in A and a column in Y.
+    /// A row of blocks in A and a column of blocks in Y.
     Block,
-    /// These, and in H2 a column.
+    /// The same as `Block`, and a column in H2.
     Across,
-    /// These, and in V2 a row.
+    /// The same as `Block`, and a row in V2.
     Down,
 }
 
@@ -93,11 +96,11 @@ pub enum Needs {
 #[derive(Clone, Copy)]
 pub enum Reach {
     Nowhere,
-    /// The cursor's place, the base address and page 1.
+    /// The cursor's position, the base address and page 1.
     Screen,
-    /// There, and the line that GETLN reads.
+    /// The same as `Screen`, and the line that GETLN reads.
     ScreenAndLine,
-    /// The mask of characters.
+    /// The mask applied to characters.
     Mask,
     /// The base address.
     Base,
@@ -114,17 +117,17 @@ pub enum Reach {
 /// How long a service takes.
 #[derive(Clone, Copy)]
 pub enum Takes {
-    /// 5 cycles: a jump by the output hook.
+    /// 5 cycles: a jump through the output hook.
     OutputHook,
-    /// 5 cycles: a jump by the input hook.
+    /// 5 cycles: a jump through the input hook.
     InputHook,
     /// 6 cycles.
     Six,
-    /// As many as WAIT does by A.
+    /// The cycles of WAIT, which depend on A.
     Wait,
 }
 
-/// Which of A, X and Y.
+/// A set of registers among A, X and Y.
 #[derive(Clone, Copy)]
 pub enum RegisterSet {
     Empty,
@@ -133,37 +136,37 @@ pub enum RegisterSet {
     AAndY,
 }
 
-/// What a service does with cells of page 1.
+/// What a service does with the cells of page 1.
 #[derive(Clone, Copy)]
 pub enum OnScreen {
     Nothing,
     /// Puts the byte in A.
     PutsByte,
-    /// Puts the two hexadecimal digits of A.
+    /// Puts A as two hexadecimal digits.
     PutsDigits,
-    /// Puts that of A's low four bits.
+    /// Puts the low four bits of A as one hexadecimal digit.
     PutsDigit,
-    /// Puts the prompt, and the line that keys make.
+    /// Puts the prompt and the line that is typed.
     ReadsLine,
-    /// Makes the window blank.
+    /// Clears the window.
     ClearsWindow,
-    /// Makes the cursor's row blank, up to the window's right edge.
+    /// Clears the cursor's row from the cursor to the window's right edge.
     ClearsToEnd,
-    /// And the rows of the window below it.
+    /// Does the same, and clears the rows of the window below.
     ClearsBelow,
-    /// Colours the block of row A and column Y.
+    /// Colours the block in row A, column Y.
     PaintsBlock,
-    /// And those up to the column in H2.
+    /// Colours the block in row A, column Y, and those up to the column in H2.
     PaintsAcross,
-    /// Colours the block of row A and column Y, and those up to the row in V2.
+    /// Colours the block in row A, column Y, and those up to the row in V2.
     PaintsDown,
-    /// Looks at the block of row A and column Y.
+    /// Reads the block in row A, column Y.
     LooksAtBlock,
     /// Makes all blocks black.
     ClearsBlocks,
 }
 
-/// A service's row.
+/// The row of a service in the table.
 #[derive(Clone, Copy)]
 pub struct Row {
     pub address: u16,
@@ -175,13 +178,13 @@ pub struct Row {
     pub on_screen: OnScreen,
 }
 
-// Those of the services that are looked for first.
+// The services that `service_at` tries first.
 const COUT: u16 = 0xFDED;
 
 const PLOT: u16 = 0xF800;
 
-// Makes something of each service's row: what it is, its name, where it is called, what it needs, where it may store, how long it
-// takes, which registers it looks at and sets, and what it does on the screen.
+// Passes the table of services to a macro. A row holds the service, its name, its address, what it needs, where it may store,
+// how long it takes, which registers it reads and sets, and what it does on the screen.
 macro_rules! services {
     ($make:ident $($of:ident)?) => {
         $make!($($of)?;
@@ -244,8 +247,8 @@ macro_rules! all {
     };
 }
 
-/// The row of a service. Apple II Reference Manual (1979), chapter 3, has the addresses; all else is this project's
-/// profile.
+/// Returns the row of a service. The addresses come from the Apple II Reference Manual (1979), chapter 3; everything else is
+/// this project's profile.
 #[inline(always)]
 pub fn row_of(service: Service) -> Row
     ensures { result ≡ row_by service }
@@ -253,8 +256,8 @@ pub fn row_of(service: Service) -> Row
     services!(rows service)
 }
 
-/// The service that is called at an address, from 0 to $FFFF, or `None` where none is. Apple II Reference
-/// Manual (1979), chapter 3, "Some useful Monitor subroutines".
+/// Returns the service at an address from 0 to $FFFF, or `None` if there is no service at it. Apple II Reference Manual (1979),
+/// chapter 3, "Some useful Monitor subroutines".
 #[inline(always)]
 #[tactic(auto, unfolding(crate::specs::Services::service_at))]
 pub fn service_at(address: u16) -> Option<Service>
@@ -264,28 +267,29 @@ pub fn service_at(address: u16) -> Option<Service>
         COUT => Some(Service::Cout),
         COUT1 => Some(Service::Cout1),
         PLOT => Some(Service::Plot),
-        _ => any_at(address),
+        _ => search_at(address),
     }
 }
 
-// The same, with none looked for first. (Not inlined: the compiler would make one search of both matches, in which those take longer.)
+// The same, without trying any service first. (Not inlined: the compiler would merge both matches into one search, in which the
+// services tried first take longer.)
 #[inline(never)]
 #[tactic(auto, unfolding(crate::specs::Services::service_at))]
-fn any_at(address: u16) -> Option<Service>
+fn search_at(address: u16) -> Option<Service>
     ensures { result ≡ service_at_of address }
 {
     services!(places address)
 }
 
 impl Service {
-    /// How many services there are.
+    /// The number of services.
     pub const COUNT: usize = services!(all).len();
 
-    /// Each service, in the order of their numbers.
+    /// All services, in the order of their numbers.
     pub const ALL: [Service; Service::COUNT] = services!(all);
 
-    /// Its name in the Monitor, in capitals: 4 to 7 letters and digits. Apple II Reference Manual (1979), chapter 3, "Some
-    /// useful Monitor subroutines".
+    /// Returns the service's name in the Monitor, in capitals: 4 to 7 letters and digits. Apple II Reference Manual (1979),
+    /// chapter 3, "Some useful Monitor subroutines".
     pub fn name(self) -> &'static [u8]
         ensures name { result.now ≡ name_of self }
         ensures short { length result.now ≤ 7 }

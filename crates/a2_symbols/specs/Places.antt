@@ -24,8 +24,8 @@ number_of [] = None
 number_of (c ∷ cs) = if c == sign "$" then number_in 16 4 cs else number_in 10 5 (c ∷ cs)
 
 -- the number of characters before the first occurrence of this one
-abbrev pub front_of : ℕ → List ℕ → ℕ
-front_of sign word = prefix_len (λ c. not (c == sign)) word
+abbrev pub length_before : ℕ → List ℕ → ℕ
+length_before sign word = prefix_len (λ c. not (c == sign)) word
 
 -- the number of a line: 1 to 5 decimal digits, which a colon may follow
 abbrev pub line_by : List ℕ → List ℕ → Option ℕ
@@ -34,7 +34,7 @@ line_by digits (colon ∷ []) = number_in 10 5 digits
 line_by digits (colon ∷ next ∷ more) = None
 
 unfoldable pub line_of : List ℕ → Option ℕ
-line_of word = let n = front_of (sign ":") word in line_by (take n word) (drop n word)
+line_of word = let n = length_before (sign ":") word in line_by (take n word) (drop n word)
 
 -- $ and 1 to 4 hexadecimal digits; the number of a line with an instruction; or a name
 unfoldable pub base_of : Assembled → List ℕ → Option ℕ
@@ -50,15 +50,15 @@ abbrev pub further : ℕ → Option ℕ → Option ℕ
 further address None = None
 further address (Some count) = if nat_lt (address + count) 65536 then Some (address + count) else None
 
-abbrev pub moved : List ℕ → Option ℕ → Option ℕ
-moved [] base = base
-moved (plus ∷ count) None = None
-moved (plus ∷ count) (Some address) = further address (number_of count)
+abbrev pub with_offset : List ℕ → Option ℕ → Option ℕ
+with_offset [] base = base
+with_offset (plus ∷ count) None = None
+with_offset (plus ∷ count) (Some address) = further address (number_of count)
 
 -- one of these, which + and a number may follow
 unfoldable pub place_of : Assembled → List ℕ → Option ℕ
 place_of program word =
-    let n = front_of (sign "+") word in moved (drop n word) (base_of program (take n word))
+    let n = length_before (sign "+") word in with_offset (drop n word) (base_of program (take n word))
 
 -- the addresses from one to another, which is not below the first
 abbrev pub spanned : Option ℕ → Option ℕ → Option Span
@@ -74,4 +74,4 @@ span_by program first (dot ∷ next ∷ last) = if next == sign "." then spanned
 -- one place, or two with .. between them
 unfoldable pub span_of : Assembled → List ℕ → Option Span
 span_of program word =
-    let n = front_of (sign ".") word in span_by program (place_of program (take n word)) (drop n word)
+    let n = length_before (sign ".") word in span_by program (place_of program (take n word)) (drop n word)

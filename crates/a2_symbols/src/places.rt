@@ -54,9 +54,9 @@ pub fn number_of(word: &[u8]) -> Option<u16>
 }
 
 // Splits an argument before the first occurrence of a character.
-fn split_at_sign(word: &[u8], sign: u8) -> (&[u8], &[u8])
-    ensures front { result.0.now ≡ take (place.front_of sign word.now) word.now }
-    ensures behind { result.1.now ≡ drop (place.front_of sign word.now) word.now }
+fn split_at_char(word: &[u8], sign: u8) -> (&[u8], &[u8])
+    ensures front { result.0.now ≡ take (place.length_before sign word.now) word.now }
+    ensures following { result.1.now ≡ drop (place.length_before sign word.now) word.now }
 {
     word.split_at(front_len(word, |c| c != sign))
 }
@@ -66,8 +66,8 @@ fn split_at_sign(word: &[u8], sign: u8) -> (&[u8], &[u8])
 fn line_of(word: &[u8]) -> Option<u16>
     ensures { result ≡ place.line_of word.now }
 {
-    let (digits, behind) = split_at_sign(word, b':');
-    match behind {
+    let (digits, following) = split_at_char(word, b':');
+    match following {
         [] | [_] => number_in(10, 5, digits),
         _ => None,
     }
@@ -86,11 +86,11 @@ fn base_of<A: Allocator>(program: &Program<A>, word: &[u8]) -> Option<u16>
     }
 }
 
-// Returns the base plus the number after the first byte of `behind`, or the base itself if `behind` is empty.
-fn moved(base: Option<u16>, behind: &[u8]) -> Option<u16>
-    ensures { result ≡ place.moved behind.now base }
+// Returns the base plus the number after the first byte of `following`, or the base itself if `following` is empty.
+fn with_offset(base: Option<u16>, following: &[u8]) -> Option<u16>
+    ensures { result ≡ place.with_offset following.now base }
 {
-    match behind {
+    match following {
         [] => base,
         [_, count @ ..] => {
             let address = base?;
@@ -111,8 +111,8 @@ fn moved(base: Option<u16>, behind: &[u8]) -> Option<u16>
 pub fn place_of<A: Allocator>(program: &Program<A>, word: &[u8]) -> Option<u16>
     ensures { result ≡ place.place_of program.now word.now }
 {
-    let (front, behind) = split_at_sign(word, b'+');
-    moved(base_of(program, front), behind)
+    let (front, following) = split_at_char(word, b'+');
+    with_offset(base_of(program, front), following)
 }
 
 // Returns the range from one address to another.
@@ -133,9 +133,9 @@ fn spanned(first: Option<u16>, last: Option<u16>) -> Option<Span>
 pub fn span_of<A: Allocator>(program: &Program<A>, word: &[u8]) -> Option<Span>
     ensures { result ≡ place.span_of program.now word.now }
 {
-    let (front, behind) = split_at_sign(word, b'.');
+    let (front, following) = split_at_char(word, b'.');
     let first = place_of(program, front);
-    match behind {
+    match following {
         [] => spanned(first, first),
         [_, b'.', last @ ..] => spanned(first, place_of(program, last)),
         _ => None,

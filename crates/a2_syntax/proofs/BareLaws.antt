@@ -2,7 +2,7 @@
 use Rattle.std.proofs.Common.{refl, sym, ap, subst, inl, inr, ◌≡◌, ℕ, List, [], ◌∷◌, map, Option, None, IsTrue}
 use Rattle.a2_opcode.specs.declared.Mnemonic.{Mnemonic}
 use Rattle.a2_syntax.specs.Bare.{bare_term, bare_signed, bare_expr, bare_operand, bare_body, bare_line}
-use Rattle.a2_syntax.specs.Grammar.{IsTerm, AreMoreTerms, AreTerms, IsExpr, AreExprs, IsOperand, IsOperandOf, IsOperation, IsBody, may_stand, IsLine}
+use Rattle.a2_syntax.specs.Grammar.{IsTerm, AreMoreTerms, AreTerms, IsExpr, AreExprs, IsOperand, IsOperandOf, IsOperation, IsBody, has_needed_label, IsLine}
 use Rattle.a2_syntax.specs.Sources.{AreLines}
 use Rattle.a2_syntax.specs.declared.source.Term.{Term}
 use Rattle.a2_syntax.specs.declared.source.Term.TheVariants.{Here}
@@ -69,14 +69,14 @@ IsBody-bare : {A : Type 0} (B : Type 0) (text : List ℕ) (body : Body A) → Is
 IsBody-bare B text body (inl (over, e)) = inl (over, ap bare_body e)
 IsBody-bare B text body (inr (operation, pieces, has, is)) = inr (operation, pieces, has, IsOperation-bare B operation pieces body is)
 
-may_stand-bare : {A : Type 0} (B : Type 0) (label : Option (List ℕ)) (body : Body A) → may_stand {A = B} label (bare_body body) ≡ may_stand label body
-may_stand-bare B None (Equ e) = refl
-may_stand-bare B _ _ = refl
+has_needed_label-bare : {A : Type 0} (B : Type 0) (label : Option (List ℕ)) (body : Body A) → has_needed_label {A = B} label (bare_body body) ≡ has_needed_label label body
+has_needed_label-bare B None (Equ e) = refl
+has_needed_label-bare B _ _ = refl
 
 pub IsLine-bare : {A : Type 0} (B : Type 0) (text : List ℕ) (line : Line A) → IsLine text line → IsLine {A = B} text (bare_line line)
 IsLine-bare B text line (inl (comment, starred, label, empty)) = inl (comment, starred, label, ap bare_body empty)
 IsLine-bare B text line (inr (rest, label, gap, body, stands)) =
-    inr (rest, label, gap, IsBody-bare B rest line.body body, subst IsTrue (sym (may_stand-bare B line.label line.body)) stands)
+    inr (rest, label, gap, IsBody-bare B rest line.body body, subst IsTrue (sym (has_needed_label-bare B line.label line.body)) stands)
 
 pub AreLines-bare : {A : Type 0} (B : Type 0) (texts : List (List ℕ)) (lines : List (Line A)) → AreLines texts lines → AreLines {A = B} texts (map bare_line lines)
 AreLines-bare B [] [] h = h

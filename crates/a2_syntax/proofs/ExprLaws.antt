@@ -139,8 +139,8 @@ expr-inner ps e (rest, p, h) = by_part e.part ps p (more-inner (codes "+" ∷ re
     by_part Low ps e h = rw e h
     by_part High ps e h = rw e h
 
-pub outer-behind : (front back : List (List ℕ)) → list_any is_outer back ≡ true → list_any is_outer (front ++ back) ≡ true
-outer-behind front back h = list_any-append is_outer front back ∙ or_right _ _ h
+pub outer-following : (front back : List (List ℕ)) → list_any is_outer back ≡ true → list_any is_outer (front ++ back) ≡ true
+outer-following front back h = list_any-append is_outer front back ∙ or_right _ _ h
 
 pub expr-some : {A : Type 0} (ps : List (List ℕ)) (e : Expr A) → IsExpr ps e → 0 < length ps
 expr-some [] e h = absurd (no-more (codes "+" ∷ []) e.terms (plus-terms [] e.terms (expr-parts [] e h).1) (omega arith) (omega arith))
@@ -164,11 +164,11 @@ cut-one [] (q ∷ qs) a b e h k = absurd (false≢true (sym (or_parts (is_byte 4
 cut-one (p ∷ ps) [] a b e h k = absurd (false≢true (sym (or_parts (is_byte 44 p) _ h).0 ∙ ap (λ z. is_byte 44 (get_or z 0 [])) e))
 cut-one (p ∷ ps) (q ∷ qs) a b e h k =
     let first : q ≡ p = cc in
-    let (same, behind) = cut-one ps qs a b (ap (drop 1) e) (or_parts _ _ h).1 (or_parts _ _ k).1 in
-    ((λ i. first i ∷ same i), behind)
+    let (same, following) = cut-one ps qs a b (ap (drop 1) e) (or_parts _ _ h).1 (or_parts _ _ k).1 in
+    ((λ i. first i ∷ same i), following)
 
-comma-behind : (front back : List (List ℕ)) → has_comma (front ++ codes "," ∷ back) ≡ true
-comma-behind front back = list_any-append (is_byte 44) front (codes "," ∷ back) ∙ or_right _ _ refl
+comma-following : (front back : List (List ℕ)) → has_comma (front ++ codes "," ∷ back) ≡ true
+comma-following front back = list_any-append (is_byte 44) front (codes "," ∷ back) ∙ or_right _ _ refl
 
 -- the pieces before the first comma, or all of them, and what follows the comma
 abbrev pub IsCut : List (List ℕ) → List (List ℕ) → Option (List (List ℕ)) → Type 0
@@ -181,8 +181,8 @@ pub exprs-parts : {A : Type 0} (ps front : List (List ℕ)) (back : Option (List
 exprs-parts ps front back [] is h = absurd h
 exprs-parts ps front None (e ∷ []) (is, c) h = (e, [], refl, rw is at h, refl)
 exprs-parts ps front (Some b) (e ∷ []) (is, c) h =
-    absurd (false≢true (sym (inner-comma ps (expr-inner ps e h)) ∙ ap has_comma is ∙ comma-behind front b))
-exprs-parts ps front None (e ∷ f ∷ fs) (is, c) (g, d, same, k, more) = absurd (false≢true (sym c ∙ ap has_comma (sym is ∙ same) ∙ comma-behind g d))
+    absurd (false≢true (sym (inner-comma ps (expr-inner ps e h)) ∙ ap has_comma is ∙ comma-following front b))
+exprs-parts ps front None (e ∷ f ∷ fs) (is, c) (g, d, same, k, more) = absurd (false≢true (sym c ∙ ap has_comma (sym is ∙ same) ∙ comma-following g d))
 exprs-parts ps front (Some b) (e ∷ f ∷ fs) (is, c) (g, d, same, k, more) =
     let (fronts, backs) = cut-one front g b d (sym is ∙ same) c (inner-comma g (expr-inner g e k)) in
     (e, f ∷ fs, refl, rw fronts at k, rw backs at more)

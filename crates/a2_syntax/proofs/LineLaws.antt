@@ -6,19 +6,19 @@ use Rattle.std.proofs.lemmas.Bool.Decides.{nat_tests}
 use Rattle.std.proofs.lemmas.List.{take-append-drop}
 use Rattle.std.proofs.lemmas.List.Elements.{All-head, All-nil}
 use Rattle.a2_text.specs.Bytes.{is_blank, capital}
-use Rattle.a2_text.specs.Words.{behind_blanks}
+use Rattle.a2_text.specs.Words.{after_blanks}
 use Rattle.a2_syntax.specs.Names.{is_name_byte, is_name}
 use Rattle.a2_syntax.specs.Pieces.{is_over, is_gap, Spells}
 use Rattle.a2_syntax.specs.Reading.{run_len, is_starred}
 use Rattle.a2_syntax.specs.Relations.{Finds}
 use Rattle.a2_syntax.specs.Words.{letters_of}
-use Rattle.a2_syntax.specs.Grammar.{HasOperation, IsOperation, IsBody, IsLabelled, may_stand, IsLine}
+use Rattle.a2_syntax.specs.Grammar.{HasOperation, IsOperation, IsBody, IsLabelled, has_needed_label, IsLine}
 use Rattle.a2_syntax.specs.declared.operation.Operation.{Operation}
 use Rattle.a2_syntax.specs.declared.source.Body.{Body}
 use Rattle.a2_syntax.specs.declared.source.Body.TheVariants.{Empty}
 use Rattle.a2_syntax.specs.declared.source.Line.{Line}
 use Rattle.a2_syntax.proofs.NameLaws.{name-bytes, word-names, same-letters}
-use Rattle.a2_syntax.proofs.PieceLaws.{Stops, front-one, behind-is, behind-self, name-first, Spells-at, Spells-one}
+use Rattle.a2_syntax.proofs.PieceLaws.{Stops, front-one, following-is, following-self, name-first, Spells-at, Spells-one}
 use Rattle.a2_syntax.proofs.BodyLaws.{IsOperation-one}
 
 -- Names before a gap
@@ -43,31 +43,31 @@ BodyAt false here body =
     (o : Operation) × (ps : List (List ℕ)) × (is_gap (drop (run_len here) here) ≡ true) × (map capital (take (run_len here) here) ≡ letters_of o)
     × Spells (drop (run_len here) here) ps × IsOperation o ps body
 
-body-at : {A : Type 0} (text : List ℕ) (body : Body A) → IsBody text body → BodyAt (is_over (behind_blanks text)) (behind_blanks text) body
+body-at : {A : Type 0} (text : List ℕ) (body : Body A) → IsBody text body → BodyAt (is_over (after_blanks text)) (after_blanks text) body
 body-at text body (inl (spells, is)) = rw (Spells-at text [] spells) is
-body-at text body (inr (o, ps, (rest, word, after, behind, is, name, gap, spells), does)) =
+body-at text body (inr (o, ps, (rest, word, after, following, is, name, gap, spells), does)) =
     let (some, bytes) = word-names word o name in
     let (stops, over) = begins word some bytes in
-    let here : behind_blanks text ≡ word ++ after = behind-is text rest behind (rw is stops) ∙ is in
-    let (front, back) = word-front (behind_blanks text) word after here bytes gap in
+    let here : after_blanks text ≡ word ++ after = following-is text rest following (rw is stops) ∙ is in
+    let (front, back) = word-front (after_blanks text) word after here bytes gap in
     rw (here, over) (o, ps, rw (← here, back) gap, rw (← here, front) name, rw (← here, back) spells, does)
   where
     begins : (word : List ℕ) → 0 < length word → AllPass is_name_byte word → Stops is_blank (word ++ after) × (is_over (word ++ after) ≡ false)
     begins [] some h = absurd (omega (arith, some))
     begins (c ∷ cs) some h = let (blank, over, _) = name-first c (All-head (λ x. is_name_byte x ≡ true) c cs h) in (blank, over)
 
-pub HasOperation-from : (text here : List ℕ) (o : Operation) (ps : List (List ℕ)) → here ≡ behind_blanks text → map capital (take (run_len here) here) ≡ letters_of o
+pub HasOperation-from : (text here : List ℕ) (o : Operation) (ps : List (List ℕ)) → here ≡ after_blanks text → map capital (take (run_len here) here) ≡ letters_of o
     → is_gap (drop (run_len here) here) ≡ true → Spells (drop (run_len here) here) ps → HasOperation text o ps
 HasOperation-from text here o ps e name gap spells =
-    (here, take (run_len here) here, drop (run_len here) here, rw e (behind-self text), sym (take-append-drop (run_len here) here), name, gap, spells)
+    (here, take (run_len here) here, drop (run_len here) here, rw e (following-self text), sym (take-append-drop (run_len here) here), name, gap, spells)
 
-pub body-parts : {A : Type 0} (text here word after : List ℕ) → here ≡ behind_blanks text → is_over here ≡ false → word ≡ take (run_len here) here → after ≡ drop (run_len here) here
+pub body-parts : {A : Type 0} (text here word after : List ℕ) → here ≡ after_blanks text → is_over here ≡ false → word ≡ take (run_len here) here → after ≡ drop (run_len here) here
     → (body : Body A) → IsBody text body
     → (o : Operation) × (ps : List (List ℕ)) × (is_gap after ≡ true) × (map capital word ≡ letters_of o) × Spells after ps × IsOperation o ps body
 body-parts text here word after e over w a body h = rw (w, a) (rw over at (rw (← e) at (body-at text body h)))
 
 -- the body read from an operation's pieces is the body of the text
-pub body-found : {A : Type 0} (text here word after : List ℕ) (o : Operation) (ps : List (List ℕ)) (r : Option (Body A)) → here ≡ behind_blanks text → is_over here ≡ false
+pub body-found : {A : Type 0} (text here word after : List ℕ) (o : Operation) (ps : List (List ℕ)) (r : Option (Body A)) → here ≡ after_blanks text → is_over here ≡ false
     → word ≡ take (run_len here) here → after ≡ drop (run_len here) here → is_gap after ≡ true → letters_of o ≡ map capital word → Spells after ps
     → Finds (IsOperation o ps) r → Finds (IsBody text) r
 body-found text here word after o ps (Some body) e over w a gap named spells h =
@@ -77,9 +77,9 @@ body-found text here word after o ps None e over w a gap named spells none = λ 
     none body (rw (same-letters o p (named ∙ name), Spells-one after ps qs spells others) does))
 
 pub IsBody-one : {A : Type 0} (text : List ℕ) (a b : Body A) → IsBody text a → IsBody text b → a ≡ b
-IsBody-one text a b h k = one (is_over (behind_blanks text)) (body-at text a h) (body-at text b k)
+IsBody-one text a b h k = one (is_over (after_blanks text)) (body-at text a h) (body-at text b k)
   where
-    one : (over : Bool) → BodyAt over (behind_blanks text) a → BodyAt over (behind_blanks text) b → a ≡ b
+    one : (over : Bool) → BodyAt over (after_blanks text) a → BodyAt over (after_blanks text) b → a ≡ b
     one true e f = e ∙ sym f
     one false (o, ps, _, name, spells, does) (p, qs, _, other, others, also) =
         IsOperation-one o ps a b does (rw (same-letters o p (sym name ∙ other), Spells-one _ ps qs spells others) also)
@@ -113,7 +113,7 @@ abbrev LineAt : {A : Type 0} → Bool → List ℕ → Line A → Type 0
 LineAt true text line = (line.label ≡ None) × (line.body ≡ Empty)
 LineAt false text line =
     (is_gap (drop (run_len text) text) ≡ true) × LabelIs (take (run_len text) text) line.label × IsBody (drop (run_len text) text) line.body
-    × (may_stand line.label line.body ≡ true)
+    × (has_needed_label line.label line.body ≡ true)
 
 line-at : {A : Type 0} (text : List ℕ) (line : Line A) → IsLine text line → LineAt (is_starred text) text line
 line-at text line (inl (comment, e, label, body)) = rw e (label, body)
@@ -126,11 +126,11 @@ starred [] h = absurd (false≢true h)
 starred (c ∷ cs) h = inl (cs, ap (λ z. z ∷ cs) (eqb-true c 42 h), refl, refl)
 
 pub line-parts : {A : Type 0} (text word rest : List ℕ) → is_starred text ≡ false → word ≡ take (run_len text) text → rest ≡ drop (run_len text) text
-    → (line : Line A) → IsLine text line → (is_gap rest ≡ true) × LabelIs word line.label × IsBody rest line.body × (may_stand line.label line.body ≡ true)
+    → (line : Line A) → IsLine text line → (is_gap rest ≡ true) × LabelIs word line.label × IsBody rest line.body × (has_needed_label line.label line.body ≡ true)
 line-parts text word rest plain w r line h = rw (w, r) (rw plain at (line-at text line h))
 
 pub line-from : {A : Type 0} (text word rest : List ℕ) (label : Option (List ℕ)) (body : Body A) → word ≡ take (run_len text) text → rest ≡ drop (run_len text) text
-    → is_gap rest ≡ true → LabelIs word label → IsBody rest body → may_stand label body ≡ true → IsLine text (record { label = label; body = body })
+    → is_gap rest ≡ true → LabelIs word label → IsBody rest body → has_needed_label label body ≡ true → IsLine text (record { label = label; body = body })
 line-from text word rest label body w r gap is h fits = inr (rest, labelled label is, gap, h, fits)
   where
     whole : text ≡ word ++ rest
@@ -149,9 +149,9 @@ IsLine-one text a b h k = one (is_starred text) (line-at text a h) (line-at text
 
 -- a line without a label whose body needs one, and a line whose label is not a valid name
 pub unlabelled : {A : Type 0} (rest : List ℕ) (line : Line A) (body : Body A) → LabelIs [] line.label → IsBody rest line.body → IsBody rest body
-    → may_stand line.label line.body ≡ true → may_stand None body ≡ false → ⊥
+    → has_needed_label line.label line.body ≡ true → has_needed_label None body ≡ false → ⊥
 unlabelled rest line body l h k fits fails =
-    false≢true (sym fails ∙ (λ i. may_stand (LabelIs-one [] None line.label refl l i) (IsBody-one rest body line.body k h i)) ∙ fits)
+    false≢true (sym fails ∙ (λ i. has_needed_label (LabelIs-one [] None line.label refl l i) (IsBody-one rest body line.body k h i)) ∙ fits)
 
 pub unnamed : (word : List ℕ) (label : Option (List ℕ)) → LabelIs word label → (length word ≡ 0 → ⊥) → is_name word ≡ false → ⊥
 unnamed word None e some fails = some (ap length e)

@@ -24,10 +24,10 @@ use Rattle.a2_opcode.proofs.Lookup.{row-only}
 use Rattle.a2_opcode.proofs.RoundTrip.{coded, decoded_by, encodes-back}
 use Rattle.a2_syntax.specs.Names.{is_name_byte}
 use Rattle.a2_syntax.specs.Numbers.{number}
-use Rattle.a2_syntax.specs.Pieces.{is_sign, EndsRun, IsBehindBlanks, is_gap, Spells}
+use Rattle.a2_syntax.specs.Pieces.{is_sign, EndsRun, IsAfterSpaces, is_gap, Spells}
 use Rattle.a2_syntax.specs.Grammar.{IsExpr, IsOperand, is_shift, HasOperation, IsLine}
 use Rattle.a2_syntax.specs.Bare.{NoAllocator}
-use Rattle.a2_syntax.specs.Listed.{one_number, listed_operand, SpellsOperand, ListedOperandIsOperand, listed_line, ListingIsLine}
+use Rattle.a2_syntax.specs.Listed.{one_number, listed_operand, SpellsOperand, ListedOperandsAreSourceText, listed_line, ListingLinesAreSourceText}
 use Rattle.a2_syntax.specs.declared.source.Operand.{Operand}
 use Rattle.a2_syntax.specs.declared.source.Operand.TheVariants as form
 use Rattle.a2_syntax.specs.declared.operation.Operation.TheVariants as operations
@@ -119,7 +119,7 @@ module _ {digits : List ℕ} {n : ℕ} (d : Digits digits n) where
 byte-digits : (n : ℕ) → ltb n 256 ≡ true → Digits (hex_pair n) n
 byte-digits n h = pair-digits n (lt-from n 256 h)
 
-pub listed-operand : ListedOperandIsOperand
+pub listed-operand : ListedOperandsAreSourceText
 listed-operand Implied at n h k = ([], nothing.spells, refl)
 listed-operand Accumulator at n h k = formed form.Accumulator (letter-first 65 refl tt nothing) (65 ∷ [], refl, refl)
 listed-operand Immediate at n h k =
@@ -152,12 +152,12 @@ column-gap _ n = refl
 blank-first : (text : List ℕ) (ps : List (List ℕ)) → Spells text ps → Spells (32 ∷ text) ps
 blank-first text ps h = go ps h
   where
-    more : (rest : List ℕ) → IsBehindBlanks text rest → IsBehindBlanks (32 ∷ text) rest
+    more : (rest : List ℕ) → IsAfterSpaces text rest → IsAfterSpaces (32 ∷ text) rest
     more rest (gap, blank, whole) = (32 ∷ gap, All-cons (λ c. is_blank c ≡ true) 32 gap refl blank, ap (λ x. 32 ∷ x) whole)
 
     go : (ps : List (List ℕ)) → Spells text ps → Spells (32 ∷ text) ps
-    go [] (rest, behind, over) = (rest, more rest behind, over)
-    go (p ∷ ps) (rest, after, behind, is, piece, spells) = (rest, after, more rest behind, is, piece, spells)
+    go [] (rest, following, over) = (rest, more rest following, over)
+    go (p ∷ ps) (rest, after, following, is, piece, spells) = (rest, after, more rest following, is, piece, spells)
 
 column-spells : (mode : Mode) (n : ℕ) (ps : List (List ℕ)) → Spells (operand_text mode n) ps → Spells (operand_column mode n) ps
 column-spells Implied n ps h = h
@@ -242,7 +242,7 @@ each-small bytes all k = elim (cases_lt k (length bytes)) [
   | inr ge ↦ omega (arith, get_or_past bytes k 0 ge)
 ]
 
-pub listing-line : ListingIsLine
+pub listing-line : ListingLinesAreSourceText
 listing-line bytes at i all low e =
     let small = each-small bytes all in
     rw (listing-cut bytes at i e) (line-reads i at (take (length_of i.mode) bytes) (decoded-small bytes at i small e) (encodes-back bytes at i low small e))

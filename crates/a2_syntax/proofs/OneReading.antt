@@ -2,7 +2,7 @@
 use Rattle.std.proofs.Common.{◌≡◌, ℕ, List, [], ◌∷◌, ◌++◌, refl, sym, ◌∙◌, inl, inr}
 use Rattle.a2_syntax.specs.Grammar.{IsLine}
 use Rattle.a2_syntax.specs.Bare.{BareLine}
-use Rattle.a2_syntax.specs.Sources.{AreLines, IsSource, IsTextRefusal}
+use Rattle.a2_syntax.specs.Sources.{AreLines, IsSource, IsSourceError}
 use Rattle.a2_syntax.specs.declared.fault.Fault.{Fault}
 use Rattle.a2_syntax.specs.declared.source.Line.{Line}
 use Rattle.a2_syntax.proofs.LineLaws.{IsLine-one}
@@ -24,7 +24,7 @@ AreLines-one (t ∷ ts) a b h k =
 pub one-source : (text : List ℕ) (a b : List BareLine) → IsSource text a → IsSource text b → a ≡ b
 one-source text a b h k = AreLines-one _ a b h.1 k.1
 
-pub refused-none : (text : List ℕ) (fault : Fault) (source : List BareLine) → IsTextRefusal text fault → IsSource text source → ⊥
+pub refused-none : (text : List ℕ) (fault : Fault) (source : List BareLine) → IsSourceError text fault → IsSource text source → ⊥
 refused-none text fault source (inl e) (fits, lines) = cc
 refused-none text fault source (inr (_, n, _, (before, line, after, whole, _, _, fails))) (_, lines) = let (l, is) = line-at before source (rw whole at lines) in fails l is
   where

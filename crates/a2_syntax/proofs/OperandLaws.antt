@@ -9,13 +9,13 @@ use Rattle.a2_text.specs.Bytes.{capital}
 use Rattle.a2_syntax.specs.Relations.{Finds}
 use Rattle.a2_syntax.specs.Grammar.{IsLetter, IsIndexed, IsEnclosed, IsExpr, IsOperand}
 use Rattle.a2_syntax.specs.Reading.{is_byte}
-use Rattle.a2_syntax.specs.Shapes.{of_shape, is_letter, is_accumulator, behind, before, indexed, enclosed, shape_of}
+use Rattle.a2_syntax.specs.Shapes.{of_shape, is_letter, is_accumulator, following, before, indexed, enclosed, shape_of}
 use Rattle.a2_syntax.specs.declared.operand.Shape.{Shape}
 use Rattle.a2_syntax.specs.declared.operand.Shape.TheVariants as shapes
 use Rattle.a2_syntax.specs.declared.source.Expr.{Expr}
 use Rattle.a2_syntax.specs.declared.source.Operand.{Operand}
 use Rattle.a2_syntax.specs.declared.source.Operand.TheVariants.{Nothing, Accumulator, Immediate, Plain, WithX, WithY, InParenthesesX, ParenthesesY, InParentheses}
-use Rattle.a2_syntax.proofs.ExprLaws.{byte-is, is_outer, expr-inner, outer-behind, expr-some, IsExpr-one}
+use Rattle.a2_syntax.proofs.ExprLaws.{byte-is, is_outer, expr-inner, outer-following, expr-some, IsExpr-one}
 use Rattle.a2_syntax.proofs.Deciding.{told}
 
 pub letter-is : (c : ℕ) (piece : List ℕ) → is_letter c piece ≡ true → IsLetter (c ∷ []) piece
@@ -60,17 +60,17 @@ indexed-is c ps es e = told (before (is_letter c) ps)
     (x, is ∙ ap (λ z. z ++ x ∷ []) (js ∙ ap (λ z. es ++ z ∷ []) (byte-is 44 comma b)) ∙ append_assoc es (codes "," ∷ []) (x ∷ []), letter-is c x l)))
     (λ a. absurd (none-some es (rw a at e)))
 
-behind-is : (c : ℕ) (ps es : List (List ℕ)) → behind (is_byte c) ps ≡ Some es → ps ≡ (c ∷ []) ∷ es
-behind-is c [] es e = cc
-behind-is c (p ∷ ps) es e = elim (cases_Bool (is_byte c p)) [
+following-is : (c : ℕ) (ps es : List (List ℕ)) → following (is_byte c) ps ≡ Some es → ps ≡ (c ∷ []) ∷ es
+following-is c [] es e = cc
+following-is c (p ∷ ps) es e = elim (cases_Bool (is_byte c p)) [
   | inl h ↦ let rest : ps ≡ es = same_Some ps es (rw h at e) in (λ i. byte-is c p h i ∷ rest i)
   | inr h ↦ absurd (none-some es (rw h at e))
 ]
 
 enclosed-is : (ps es : List (List ℕ)) → enclosed ps ≡ Some es → IsEnclosed ps es
-enclosed-is ps es e = told (behind (is_byte 40) ps)
+enclosed-is ps es e = told (following (is_byte 40) ps)
     (λ rest a. (let (x, is, b) = before-is (is_byte 41) rest es (rw a at e) in
-    behind-is 40 ps rest a ∙ ap (λ z. codes "(" ∷ z) (is ∙ ap (λ z. es ++ z ∷ []) (byte-is 41 x b))))
+    following-is 40 ps rest a ∙ ap (λ z. codes "(" ∷ z) (is ∙ ap (λ z. es ++ z ∷ []) (byte-is 41 x b))))
     (λ a. absurd (none-some es (rw a at e)))
 
 -- in an expression there is no comma with a register letter, and it is not in parentheses
@@ -80,7 +80,7 @@ never (Some x) none = absurd (none x refl)
 
 no-index : {A : Type 0} (c : ℕ) (es : List (List ℕ)) (e : Expr A) → IsExpr es e → indexed c es ≡ None
 no-index c es e h = never _ (λ f i. (let (x, is, l) = indexed-is c es f i in
-    false≢true (sym (expr-inner es e h) ∙ ap (list_any is_outer) is ∙ outer-behind f (codes "," ∷ x ∷ []) refl)))
+    false≢true (sym (expr-inner es e h) ∙ ap (list_any is_outer) is ∙ outer-following f (codes "," ∷ x ∷ []) refl)))
 
 no-enclosed : {A : Type 0} (es : List (List ℕ)) (e : Expr A) → IsExpr es e → enclosed es ≡ None
 no-enclosed es e h = never _ (λ f i. false≢true (sym (expr-inner es e h) ∙ ap (list_any is_outer) (enclosed-is es f i)))
@@ -148,7 +148,7 @@ operand-as ps (InParentheses x) (es, i, h) =
     rw i (shaped (codes "(") _ shapes.InParentheses es x (no-letter (codes "(") _ refl) (rw (before_push (is_byte 41) es (codes ")"), no-index 88 es x h, shape_of) refl) h)
 
 pub shape-operand : {A : Type 0} (ps : List (List ℕ)) (e : Expr A) → IsExpr (shape_of ps).1 e → IsOperand ps (of_shape (shape_of ps).0 e)
-shape-operand ps e = told (behind (is_byte 35) ps) (λ es a. rw (a, shape_of) (λ h. (es, behind-is 35 ps es a, h)))
+shape-operand ps e = told (following (is_byte 35) ps) (λ es a. rw (a, shape_of) (λ h. (es, following-is 35 ps es a, h)))
     (λ a. told (enclosed ps)
     (λ inner b. told (indexed 88 inner) (λ es c. rw (a, b, c, shape_of) (λ h. (inner, es, enclosed-is ps inner b, indexed-is 88 inner es c, h))) (λ c. rw (a, b, c, shape_of) (λ h. (inner, enclosed-is ps inner b, h))))
     (λ b. told (indexed 88 ps) (λ es c. rw (a, b, c, shape_of) (λ h. (es, indexed-is 88 ps es c, h)))

@@ -4,12 +4,12 @@ use Rattle.std.specs.List.{All}
 use Rattle.std.proofs.lemmas.Bool.Decides.{nat_tests}
 use Rattle.std.proofs.lemmas.List.{at_drop_more, take-append-drop, map-append, length-take, length-map}
 use Rattle.std.proofs.lemmas.List.Elements.{All-nil, All-cons}
-use Rattle.a2_text.specs.Refusals.{first_line}
-use Rattle.a2_syntax.specs.Limits.{refuse_long_line}
+use Rattle.a2_text.specs.FirstError.{first_line_error}
+use Rattle.a2_syntax.specs.Limits.{long_line_error}
 use Rattle.a2_syntax.specs.Relations.{Finds}
 use Rattle.a2_syntax.specs.Grammar.{IsLine}
 use Rattle.a2_syntax.specs.Bare.{bare, bare_line}
-use Rattle.a2_syntax.specs.Sources.{AreLines, FirstUnread}
+use Rattle.a2_syntax.specs.Sources.{AreLines, IsFirstBadLine}
 use Rattle.a2_syntax.specs.declared.source.Line.{Line}
 use Rattle.a2_syntax.proofs.BareLaws.{IsLine-bare, AreLines-bare}
 use Rattle.a2_syntax.proofs.ExprLaws.{now, no_piece}
@@ -22,7 +22,7 @@ lines-push _ _ text line h is = absurd h
 
 -- if all earlier lines are read and this one cannot be, it is the first such line
 pub first-unread : {A : Type 0} (texts : List (Bor (List ℕ))) (i : ℕ) (parsed : List (Line A)) → i < length texts → AreLines (now (take i texts)) parsed
-    → Finds (IsLine {A = A} (get_or texts i no_piece).now) None → FirstUnread (now texts) (i + 1)
+    → Finds (IsLine {A = A} (get_or texts i no_piece).now) None → IsFirstBadLine (now texts) (i + 1)
 first-unread texts i parsed lt read none = (
   now (take i texts),
   (get_or texts i no_piece).now,
@@ -34,6 +34,6 @@ first-unread texts i parsed lt read none = (
 )
 
 -- no line is too long
-pub none-long : (n : ℕ) (found : List (Bor (List ℕ))) → first_line refuse_long_line n (now found) ≡ None → All (λ x. length x.now ≤ 255) found
+pub none-long : (n : ℕ) (found : List (Bor (List ℕ))) → first_line_error long_line_error n (now found) ≡ None → All (λ x. length x.now ≤ 255) found
 none-long n [] h = All-nil (λ (x : Bor (List ℕ)). length x.now ≤ 255)
 none-long n (x ∷ more) h = All-cons (λ (y : Bor (List ℕ)). length y.now ≤ 255) x more (grind (arith, nat_tests, h)) (none-long (n + 1) more (grind (arith, nat_tests, h)))

@@ -8,10 +8,10 @@ use Rattle.std.proofs.lemmas.List.Elements.{All-head, All-tail, All-nil, All-con
 use Rattle.std.proofs.lemmas.List.Folds.{length-prefix_len}
 use Rattle.std.proofs.lemmas.List.Sums.{prefix_len_passes, prefix_len_stops}
 use Rattle.a2_text.specs.Bytes.{is_blank}
-use Rattle.a2_text.specs.Words.{behind_blanks}
+use Rattle.a2_text.specs.Words.{after_blanks}
 use Rattle.a2_syntax.specs.Names.{is_name_byte}
 use Rattle.a2_syntax.specs.Numbers.{is_quote, is_quotable}
-use Rattle.a2_syntax.specs.Pieces.{is_sign, is_mark, EndsRun, IsNameRun, IsPiece, IsBehindBlanks, is_over, Spells}
+use Rattle.a2_syntax.specs.Pieces.{is_sign, is_mark, EndsRun, IsNameRun, IsPiece, IsAfterSpaces, is_over, Spells}
 use Rattle.a2_syntax.specs.Reading.{run_len, closed_len, quoted_len, marked_len, piece_len}
 
 -- Prefixes whose bytes pass
@@ -43,14 +43,14 @@ rest-stops p xs = elim (cases_lt (prefix_len p xs) (length xs)) [
   | inr ge ↦ rw (drop_all (prefix_len p xs) xs ge) tt
 ]
 
-pub behind-self : (text : List ℕ) → IsBehindBlanks text (behind_blanks text)
-behind-self text = (take (prefix_len is_blank text) text, front-passes is_blank text, sym (take-append-drop (prefix_len is_blank text) text))
+pub following-self : (text : List ℕ) → IsAfterSpaces text (after_blanks text)
+following-self text = (take (prefix_len is_blank text) text, front-passes is_blank text, sym (take-append-drop (prefix_len is_blank text) text))
 
-pub behind-is : (text rest : List ℕ) → IsBehindBlanks text rest → Stops is_blank rest → behind_blanks text ≡ rest
-behind-is text rest (gap, blank, whole) s = rw whole (front-one is_blank gap rest blank s).2
+pub following-is : (text rest : List ℕ) → IsAfterSpaces text rest → Stops is_blank rest → after_blanks text ≡ rest
+following-is text rest (gap, blank, whole) s = rw whole (front-one is_blank gap rest blank s).2
 
-pub behind-within : (text here : List ℕ) → here ≡ behind_blanks text → length here ≤ length text
-behind-within text here e = omega (arith, ap length e, length-drop (prefix_len is_blank text) text)
+pub following-within : (text here : List ℕ) → here ≡ after_blanks text → length here ≤ length text
+following-within text here e = omega (arith, ap length e, length-drop (prefix_len is_blank text) text)
 
 -- Kinds of bytes
 
@@ -149,31 +149,31 @@ front-piece (c ∷ cs) h = elim (cases_Bool (is_sign c)) [
 
 -- Texts
 
-pub Spells-over : (text : List ℕ) → is_over (behind_blanks text) ≡ true → Spells text []
-Spells-over text h = (behind_blanks text, behind-self text, h)
+pub Spells-over : (text : List ℕ) → is_over (after_blanks text) ≡ true → Spells text []
+Spells-over text h = (after_blanks text, following-self text, h)
 
 -- a text that is not over spells its first piece, and then the pieces of the rest
-pub Spells-more : (text here : List ℕ) (ps : List (List ℕ)) → here ≡ behind_blanks text → 0 < piece_len here → Spells (drop (piece_len here) here) ps
+pub Spells-more : (text here : List ℕ) (ps : List (List ℕ)) → here ≡ after_blanks text → 0 < piece_len here → Spells (drop (piece_len here) here) ps
     → Spells text (take (piece_len here) here ∷ ps)
-Spells-more text here ps e some h = (here, drop (piece_len here) here, rw e (behind-self text), sym (take-append-drop (piece_len here) here), front-piece here some, h)
+Spells-more text here ps e some h = (here, drop (piece_len here) here, rw e (following-self text), sym (take-append-drop (piece_len here) here), front-piece here some, h)
 
 -- it has no other pieces
 abbrev pub SpellsAt : List ℕ → List (List ℕ) → Type 0
 SpellsAt here [] = is_over here ≡ true
 SpellsAt here (p ∷ ps) = (is_over here ≡ false) × (0 < piece_len here) × (p ≡ take (piece_len here) here) × Spells (drop (piece_len here) here) ps
 
-pub Spells-at : (text : List ℕ) (ps : List (List ℕ)) → Spells text ps → SpellsAt (behind_blanks text) ps
-Spells-at text [] (rest, behind, over) = rw (behind-is text rest behind (stops rest over)) over
+pub Spells-at : (text : List ℕ) (ps : List (List ℕ)) → Spells text ps → SpellsAt (after_blanks text) ps
+Spells-at text [] (rest, following, over) = rw (following-is text rest following (stops rest over)) over
   where
     stops : (rest : List ℕ) → is_over rest ≡ true → Stops is_blank rest
     stops [] h = tt
     stops (c ∷ cs) h = rw (eqb-true c 59 h) refl
-Spells-at text (p ∷ ps) (rest, after, behind, is, piece, more) =
+Spells-at text (p ∷ ps) (rest, after, following, is, piece, more) =
     let (some, stops, over, n) = piece-front p after piece in
-    let here : behind_blanks text ≡ p ++ after = behind-is text rest behind (rw is stops) ∙ is in
+    let here : after_blanks text ≡ p ++ after = following-is text rest following (rw is stops) ∙ is in
     rw (here, n) (over, some, sym (take_at p after (length p) refl), rw (drop_at p after (length p) refl) more)
 
-pub Spells-parts : (text here : List ℕ) (ps : List (List ℕ)) → here ≡ behind_blanks text → is_over here ≡ false → Spells text ps
+pub Spells-parts : (text here : List ℕ) (ps : List (List ℕ)) → here ≡ after_blanks text → is_over here ≡ false → Spells text ps
     → (0 < piece_len here) × (more : List (List ℕ)) × Spells (drop (piece_len here) here) more
 Spells-parts text here [] e over h = absurd (false≢true (sym over ∙ ap is_over e ∙ Spells-at text [] h))
 Spells-parts text here (p ∷ ps) e over h = let (_, some, _, more) = Spells-at text (p ∷ ps) h in rw e (some, ps, more)
@@ -185,7 +185,7 @@ Spells-one text (p ∷ ps) [] h k = absurd (false≢true (sym (Spells-at text (p
 Spells-one text (p ∷ ps) (q ∷ qs) h k =
     let (_, _, e, more) = Spells-at text (p ∷ ps) h in
     let (_, _, f, others) = Spells-at text (q ∷ qs) k in
-    λ i. (e ∙ sym f) i ∷ Spells-one (drop (piece_len (behind_blanks text)) (behind_blanks text)) ps qs more others i
+    λ i. (e ∙ sym f) i ∷ Spells-one (drop (piece_len (after_blanks text)) (after_blanks text)) ps qs more others i
 
 -- no piece is longer than the text
 pub Spells-short : (text : List ℕ) (ps : List (List ℕ)) → Spells text ps → All (λ p. length p ≤ length text) ps

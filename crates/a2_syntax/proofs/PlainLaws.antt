@@ -3,7 +3,7 @@ use Rattle.std.proofs.Common.{◌≡◌, ℕ, ◌+◌, ◌<◌, ◌≤◌, true,
 use Rattle.std.proofs.lemmas.List.{take-append-drop, length-drop}
 use Rattle.std.proofs.lemmas.List.Folds.{length-prefix_len}
 use Rattle.std.proofs.lemmas.List.Sums.{prefix_len-le-length}
-use Rattle.a2_text.specs.Words.{behind_blanks}
+use Rattle.a2_text.specs.Words.{after_blanks}
 use Rattle.a2_syntax.specs.Names.{is_name_byte}
 use Rattle.a2_syntax.specs.Numbers.{number}
 use Rattle.a2_syntax.specs.Pieces.{is_over, Spells}
@@ -12,22 +12,22 @@ use Rattle.a2_syntax.specs.Listed.{one_number}
 use Rattle.a2_syntax.specs.Reading.{run_len, SpellsExprs}
 use Rattle.a2_syntax.specs.declared.source.Expr.{Expr}
 use Rattle.a2_syntax.proofs.Going.{Leads, leads-more}
-use Rattle.a2_syntax.proofs.PieceLaws.{behind-self, behind-within, run-front, Spells-over}
+use Rattle.a2_syntax.proofs.PieceLaws.{following-self, following-within, run-front, Spells-over}
 
 -- a number at its position: its digits, and what follows them and any spaces
-pub record Placed (rest digits behind next : List ℕ) (n : ℕ) : Type 0 where
-  pub digits_are : digits ≡ take (run_len (behind_blanks rest)) (behind_blanks rest)
-  pub behind_is : behind ≡ drop (run_len (behind_blanks rest)) (behind_blanks rest)
+pub record Placed (rest digits following next : List ℕ) (n : ℕ) : Type 0 where
+  pub digits_are : digits ≡ take (run_len (after_blanks rest)) (after_blanks rest)
+  pub behind_is : following ≡ drop (run_len (after_blanks rest)) (after_blanks rest)
   pub is_number : number digits ≡ Some n
-  pub next_is : next ≡ behind_blanks behind
+  pub next_is : next ≡ after_blanks following
 
-pub place : (rest : List ℕ) {here digits behind next : List ℕ} {n : ℕ} → here ≡ behind_blanks rest → digits ≡ take (run_len here) here → behind ≡ drop (run_len here) here
-    → number digits ≡ Some n → next ≡ behind_blanks behind → Placed rest digits behind next n
+pub place : (rest : List ℕ) {here digits following next : List ℕ} {n : ℕ} → here ≡ after_blanks rest → digits ≡ take (run_len here) here → following ≡ drop (run_len here) here
+    → number digits ≡ Some n → next ≡ after_blanks following → Placed rest digits following next n
 place rest at word after is next = record { digits_are = rw (← at) word; behind_is = rw (← at) after; is_number = is; next_is = next }
 
-module _ {rest digits behind next : List ℕ} {n : ℕ} (p : Placed rest digits behind next n) where
-  some-digits : 0 < run_len (behind_blanks rest)
-  some-digits = omega (arith, some digits p.is_number, ap length p.digits_are, length-prefix_len is_name_byte (behind_blanks rest))
+module _ {rest digits following next : List ℕ} {n : ℕ} (p : Placed rest digits following next n) where
+  some-digits : 0 < run_len (after_blanks rest)
+  some-digits = omega (arith, some digits p.is_number, ap length p.digits_are, length-prefix_len is_name_byte (after_blanks rest))
     where
       some : (digits : List ℕ) → number digits ≡ Some n → 0 < length digits
       some [] h = cc
@@ -35,16 +35,16 @@ module _ {rest digits behind next : List ℕ} {n : ℕ} (p : Placed rest digits 
 
   -- a number takes at least one byte
   pub placed-shorter : length next + 1 ≤ length rest
-  placed-shorter = omega (arith, some-digits, ap length p.behind_is, length-drop (run_len (behind_blanks rest)) (behind_blanks rest), prefix_len-le-length is_name_byte (behind_blanks rest), behind-within rest _ refl, behind-within behind next p.next_is)
+  placed-shorter = omega (arith, some-digits, ap length p.behind_is, length-drop (run_len (after_blanks rest)) (after_blanks rest), prefix_len-le-length is_name_byte (after_blanks rest), following-within rest _ refl, following-within following next p.next_is)
 
-  spells-number : (ps : List (List ℕ)) → Spells behind ps → Spells rest (digits ∷ ps)
-  spells-number ps h = rw (p.digits_are) (behind_blanks rest, behind, behind-self rest, rw p.behind_is (sym (take-append-drop (run_len (behind_blanks rest)) (behind_blanks rest))), inr (inr (inr (rw p.behind_is (run-front (behind_blanks rest) some-digits)))), h)
+  spells-number : (ps : List (List ℕ)) → Spells following ps → Spells rest (digits ∷ ps)
+  spells-number ps h = rw (p.digits_are) (after_blanks rest, following, following-self rest, rw p.behind_is (sym (take-append-drop (run_len (after_blanks rest)) (after_blanks rest))), inr (inr (inr (rw p.behind_is (run-front (after_blanks rest) some-digits)))), h)
 
   is-number : (A : Type 0) → IsExpr {A = A} (digits ∷ []) (one_number n)
   is-number A = (digits ∷ [], refl, (digits, [], refl, refl, p.is_number, refl))
 
   pub numbers-end : {A : Type 0} {text : List ℕ} {found : List (Expr A)} → Leads SpellsExprs text rest found → is_over next ≡ true → SpellsExprs text (found ++ one_number n ∷ [])
-  numbers-end {A} l over = l.back (one_number n ∷ []) (digits ∷ [], spells-number [] (Spells-over behind (rw (← p.next_is) over)), is-number A)
+  numbers-end {A} l over = l.back (one_number n ∷ []) (digits ∷ [], spells-number [] (Spells-over following (rw (← p.next_is) over)), is-number A)
 
   pub numbers-more : {A : Type 0} {text more : List ℕ} {found : List (Expr A)} → Leads SpellsExprs text rest found → next ≡ 44 ∷ more → Leads SpellsExprs text more (found ++ one_number n ∷ [])
   numbers-more {A} {more = more} l comma = leads-more (one_number n) l before
@@ -53,6 +53,6 @@ module _ {rest digits behind next : List ℕ} {n : ℕ} (p : Placed rest digits 
       before [] (ps, s, h) = absurd h
       before (f ∷ fs) (ps, s, h) = (
         digits ∷ codes "," ∷ ps,
-        spells-number (codes "," ∷ ps) (next, more, rw p.next_is (behind-self behind), comma, inl (44, refl, refl), s),
+        spells-number (codes "," ∷ ps) (next, more, rw p.next_is (following-self following), comma, inl (44, refl, refl), s),
         (digits ∷ [], ps, refl, is-number A, h),
       )

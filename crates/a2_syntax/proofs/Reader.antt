@@ -10,18 +10,18 @@ use Rattle.std.proofs.lemmas.List.{take-append-drop}
 use Rattle.std.proofs.lemmas.List.Sums.{AllPass-from_list_all}
 use Rattle.a2_text.specs.Bytes.{capital}
 use Rattle.a2_text.specs.Lines.{lines}
-use Rattle.a2_text.specs.Words.{behind_blanks}
+use Rattle.a2_text.specs.Words.{after_blanks}
 use Rattle.a2_opcode.specs.Table.{table}
 use Rattle.a2_opcode.specs.declared.Mnemonic.{Mnemonic}
 use Rattle.a2_syntax.specs.Bare.{BareLine}
 use Rattle.a2_syntax.specs.Names.{is_name}
 use Rattle.a2_syntax.specs.Numbers.{number, is_quote, is_quotable, code_in}
 use Rattle.a2_syntax.specs.Pieces.{is_gap, is_over, Spells}
-use Rattle.a2_syntax.specs.Limits.{size_refusal}
+use Rattle.a2_syntax.specs.Limits.{size_error}
 use Rattle.a2_syntax.specs.Reading.{run_len, piece_len, is_byte, part_of, is_starred}
 use Rattle.a2_syntax.specs.Shapes.{of_shape, is_accumulator, shape_of}
 use Rattle.a2_syntax.specs.Words.{letters_of}
-use Rattle.a2_syntax.specs.Grammar.{IsTerm, IsSign, AreMoreTerms, AreTerms, IsExpr, AreExprs, IsOperand, is_shift, IsOperandOf, IsText, IsOperation, IsBody, IsLabelled, may_stand, IsLine}
+use Rattle.a2_syntax.specs.Grammar.{IsTerm, IsSign, AreMoreTerms, AreTerms, IsExpr, AreExprs, IsOperand, is_shift, IsOperandOf, IsText, IsOperation, IsBody, IsLabelled, has_needed_label, IsLine}
 use Rattle.a2_syntax.specs.Sources.{AreLines, IsSource}
 use Rattle.a2_syntax.specs.declared.operation.Operation.{Operation}
 use Rattle.a2_syntax.specs.declared.operation.Operation.TheVariants as operations
@@ -44,12 +44,12 @@ some x xs e = cc
 
 -- the pieces of a text, at most this many
 abbrev pub read_pieces : (most : ℕ) (text : List ℕ) → Found (Spells text)
-read_pieces zero text = where_so (is_over (behind_blanks text)) (λ h. Some ([], Spells-over text h))
+read_pieces zero text = where_so (is_over (after_blanks text)) (λ h. Some ([], Spells-over text h))
 read_pieces (suc most) text =
-    tested (is_over (behind_blanks text)) (λ h. Some ([], Spells-over text h))
-    (λ _. where_so (nat_lt 0 (piece_len (behind_blanks text))) (λ some.
-    and_then (read_pieces most (drop (piece_len (behind_blanks text)) (behind_blanks text)))
-    (λ (more, is). Some (take (piece_len (behind_blanks text)) (behind_blanks text) ∷ more, Spells-more text (behind_blanks text) more refl (ltb-true 0 _ some) is))))
+    tested (is_over (after_blanks text)) (λ h. Some ([], Spells-over text h))
+    (λ _. where_so (nat_lt 0 (piece_len (after_blanks text))) (λ some.
+    and_then (read_pieces most (drop (piece_len (after_blanks text)) (after_blanks text)))
+    (λ (more, is). Some (take (piece_len (after_blanks text)) (after_blanks text) ∷ more, Spells-more text (after_blanks text) more refl (ltb-true 0 _ some) is))))
 
 -- Expressions
 
@@ -151,11 +151,11 @@ read_name word = or_else (named_in directives word) (named_in (map (λ row. oper
 
 abbrev pub read_body : {A : Type 0} (text : List ℕ) → Found (IsBody {A = A} text)
 read_body text =
-    let here = behind_blanks text in
-    let behind = drop (run_len here) here in
+    let here = after_blanks text in
+    let following = drop (run_len here) here in
     tested (is_over here) (λ h. Some (Empty, inl (Spells-over text h, refl)))
     (λ _. and_then (read_name (map capital (take (run_len here) here)))
-    (λ (o, named). where_so (is_gap behind) (λ gap. and_then (read_pieces (length behind) behind)
+    (λ (o, named). where_so (is_gap following) (λ gap. and_then (read_pieces (length following) following)
     (λ (pieces, spells). and_then (read_operation o pieces)
     (λ (body, is). Some (body, inr (o, pieces, HasOperation-from text here o pieces refl named gap spells, is)))))))
 
@@ -163,7 +163,7 @@ read_body text =
 abbrev pub read_behind : {A : Type 0} (text : List ℕ) (label : Option (List ℕ)) (rest : List ℕ) → IsLabelled text label rest → Found (IsLine {A = A} text)
 read_behind text label rest labelled =
     where_so (is_gap rest) (λ gap. and_then (read_body rest)
-    (λ (body, is). where_so (may_stand label body) (λ may. Some (record { label = label; body = body }, inr (rest, labelled, gap, is, may)))))
+    (λ (body, is). where_so (has_needed_label label body) (λ may. Some (record { label = label; body = body }, inr (rest, labelled, gap, is, may)))))
 
 abbrev pub read_line : {A : Type 0} (text : List ℕ) → Found (IsLine {A = A} text)
 read_line text =
@@ -178,7 +178,7 @@ read_lines (text ∷ more) = and_then (read_line text) (λ (line, is). and_then 
 
 abbrev pub read : (text : List ℕ) → Found (IsSource text)
 read text =
-    told (size_refusal text) (λ _ _. None) (λ fits. and_then (read_lines (lines text)) (λ (source, are). Some (source, (fits, are))))
+    told (size_error text) (λ _ _. None) (λ fits. and_then (read_lines (lines text)) (λ (source, are). Some (source, (fits, are))))
 
 -- the lines of a text, if it is a source
 unfoldable pub read_source : List ℕ → Option (List BareLine)

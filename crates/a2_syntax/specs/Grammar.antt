@@ -5,7 +5,7 @@ use Rattle.a2_opcode.specs.declared.Mnemonic.{Mnemonic}
 use Rattle.a2_opcode.specs.declared.Mnemonic.TheVariants.{Asl, Lsr, Rol, Ror}
 use Rattle.a2_syntax.specs.Names.{is_name}
 use Rattle.a2_syntax.specs.Numbers.{code_in, number}
-use Rattle.a2_syntax.specs.Pieces.{IsQuoted, IsBehindBlanks, is_gap, Spells}
+use Rattle.a2_syntax.specs.Pieces.{IsQuoted, IsAfterSpaces, is_gap, Spells}
 use Rattle.a2_syntax.specs.Words.{letters_of}
 use Rattle.a2_syntax.specs.declared.source.Term.{Term}
 use Rattle.a2_syntax.specs.declared.source.Term.TheVariants.{Number, Named, Here}
@@ -116,7 +116,7 @@ IsOperation operation pieces body = ⊥
 -- spaces, the name of an operation in upper or lower case, and the pieces after it
 abbrev pub HasOperation : List ℕ → Operation → List (List ℕ) → Type 0
 HasOperation text operation pieces =
-    (rest word after : List ℕ) × IsBehindBlanks text rest × (rest ≡ word ++ after) × (map capital word ≡ letters_of operation) × IsTrue (is_gap after) × Spells after pieces
+    (rest word after : List ℕ) × IsAfterSpaces text rest × (rest ≡ word ++ after) × (map capital word ≡ letters_of operation) × IsTrue (is_gap after) × Spells after pieces
 
 -- what follows the label: nothing, or an operation
 abbrev pub IsBody : {A : Type 0} → List ℕ → Body A → Type 0
@@ -129,13 +129,13 @@ IsLabelled text None rest = text ≡ rest
 IsLabelled text (Some name) rest = (text ≡ name ++ rest) × IsTrue (is_name name)
 
 -- EQU must have a label
-abbrev pub may_stand : {A : Type 0} → Option (List ℕ) → Body A → Bool
-may_stand None (Equ e) = false
-may_stand label body = true
+abbrev pub has_needed_label : {A : Type 0} → Option (List ℕ) → Body A → Bool
+has_needed_label None (Equ e) = false
+has_needed_label label body = true
 
 -- an optional label, then nothing, or a space and an operation
 abbrev pub IsStatement : {A : Type 0} → List ℕ → Line A → Type 0
-IsStatement text line = (rest : List ℕ) × IsLabelled text line.label rest × IsTrue (is_gap rest) × IsBody rest line.body × IsTrue (may_stand line.label line.body)
+IsStatement text line = (rest : List ℕ) × IsLabelled text line.label rest × IsTrue (is_gap rest) × IsBody rest line.body × IsTrue (has_needed_label line.label line.body)
 
 -- a line that begins with `*` is a comment
 abbrev pub IsStarred : {A : Type 0} → List ℕ → Line A → Type 0

@@ -4,7 +4,7 @@ use Rattle.std.specs.List.{All}
 use Rattle.a2_opcode.specs.declared.Mode.{Mode}
 use Rattle.a2_opcode.specs.declared.Mode.TheVariants.{Implied, Accumulator, Immediate, ZeroPage, ZeroPageX, ZeroPageY, Absolute, AbsoluteX, AbsoluteY, IndexedIndirect, IndirectIndexed, Indirect, Relative}
 use Rattle.a2_opcode.specs.declared.Instr as opcode
-use Rattle.a2_opcode.specs.Encoding.{can_have, decoded}
+use Rattle.a2_opcode.specs.Encoding.{is_operand_value, decoded}
 use Rattle.a2_opcode.specs.Listing.{operand_text, listing}
 use Rattle.a2_syntax.specs.Pieces.{Spells}
 use Rattle.a2_syntax.specs.Grammar.{IsOperand, IsLine}
@@ -41,9 +41,9 @@ abbrev pub SpellsOperand : List ℕ → Operand NoAllocator → Type 0
 SpellsOperand text operand = (pieces : List (List ℕ)) × Spells text pieces × IsOperand pieces operand
 
 -- the operand text of a listing is that operand, for each value that the mode can have
-abbrev pub ListedOperandIsOperand : Type 0
-ListedOperandIsOperand =
-    (mode : Mode) (at value : ℕ) → value < 65536 → IsTrue (can_have mode at value)
+abbrev pub ListedOperandsAreSourceText : Type 0
+ListedOperandsAreSourceText =
+    (mode : Mode) (at value : ℕ) → value < 65536 → IsTrue (is_operand_value mode at value)
     → SpellsOperand (operand_text mode value) (listed_operand mode value)
 
 -- the line of an instruction without a label
@@ -51,7 +51,7 @@ abbrev pub listed_line : opcode.Instr → BareLine
 listed_line i = record { label = None; body = Instr i.mnemonic (listed_operand i.mode i.value) }
 
 -- a listing line that shows an instruction, from column 19 on: a space, the mnemonic and the operand
-abbrev pub ListingIsLine : Type 0
-ListingIsLine =
+abbrev pub ListingLinesAreSourceText : Type 0
+ListingLinesAreSourceText =
     (bytes : List ℕ) (at : ℕ) (i : opcode.Instr) → All (λ byte. byte < 256) bytes → at < 65536 → decoded bytes at ≡ Some i
     → IsLine (drop 18 (listing bytes at)) (listed_line i)

@@ -38,8 +38,8 @@ IsPiece piece rest =
     IsNameRun piece rest))
 
 -- text consists of spaces followed by rest
-abbrev pub IsBehindBlanks : List ℕ → List ℕ → Type 0
-IsBehindBlanks text rest = (gap : List ℕ) × AllPass is_blank gap × (text ≡ gap ++ rest)
+abbrev pub IsAfterSpaces : List ℕ → List ℕ → Type 0
+IsAfterSpaces text rest = (gap : List ℕ) × AllPass is_blank gap × (text ≡ gap ++ rest)
 
 -- the text is empty, or `;` and a comment, which may hold any byte
 abbrev pub is_over : List ℕ → Bool
@@ -53,6 +53,6 @@ is_gap (c ∷ cs) = is_blank c || c == sign ";"
 
 -- the pieces of a text; there may be spaces before each piece and at the end, and then a comment
 abbrev pub Spells : List ℕ → List (List ℕ) → Type 0
-Spells text [] = (rest : List ℕ) × IsBehindBlanks text rest × IsTrue (is_over rest)
+Spells text [] = (rest : List ℕ) × IsAfterSpaces text rest × IsTrue (is_over rest)
 Spells text (piece ∷ pieces) =
-    (rest after : List ℕ) × IsBehindBlanks text rest × (rest ≡ piece ++ after) × IsPiece piece after × Spells after pieces
+    (rest after : List ℕ) × IsAfterSpaces text rest × (rest ≡ piece ++ after) × IsPiece piece after × Spells after pieces

@@ -28,9 +28,9 @@ is_accumulator (piece ∷ []) = is_letter (sign "A") piece
 is_accumulator pieces = false
 
 -- the pieces after a first piece that passes
-abbrev pub behind : (List ℕ → Bool) → List (List ℕ) → Option (List (List ℕ))
-behind passes [] = None
-behind passes (piece ∷ pieces) = if passes piece then Some pieces else None
+abbrev pub following : (List ℕ → Bool) → List (List ℕ) → Option (List (List ℕ))
+following passes [] = None
+following passes (piece ∷ pieces) = if passes piece then Some pieces else None
 
 -- the pieces before a last piece that passes
 abbrev pub before : (List ℕ → Bool) → List (List ℕ) → Option (List (List ℕ))
@@ -44,11 +44,11 @@ indexed c pieces = option_and_then (before (is_byte (sign ","))) (before (is_let
 
 -- the pieces between parentheses
 abbrev pub enclosed : List (List ℕ) → Option (List (List ℕ))
-enclosed pieces = option_and_then (before (is_byte (sign ")"))) (behind (is_byte (sign "(")) pieces)
+enclosed pieces = option_and_then (before (is_byte (sign ")"))) (following (is_byte (sign "(")) pieces)
 
 -- the shape of an operand that is not a single letter, and the pieces of its expression
 abbrev pub shape_of : List (List ℕ) → Shape × List (List ℕ)
-shape_of pieces = elim (behind (is_byte (sign "#")) pieces) [
+shape_of pieces = elim (following (is_byte (sign "#")) pieces) [
   | Some es ↦ (shapes.Immediate, es)
   | None ↦ elim (enclosed pieces) [
     | Some inner ↦ elim (indexed (sign "X") inner) [ Some es ↦ (shapes.InParenthesesX, es) | None ↦ (shapes.InParentheses, inner) ]

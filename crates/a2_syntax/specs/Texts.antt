@@ -1,6 +1,6 @@
 -- The texts of error messages. This project's profile.
 use Rattle.std.specs.Prelude.{ℕ, List, codes}
-use Rattle.a2_text.specs.Refusals.{of_line}
+use Rattle.a2_text.specs.FirstError.{with_line_number}
 use Rattle.a2_syntax.specs.declared.fault.Fault.{Fault}
 use Rattle.a2_syntax.specs.declared.fault.Fault.TheVariants.{TooLarge, Syntax, TooManyNames, Duplicate, Unknown, Forward, NoMode, Range, Branch, Outside, Overlap, NoCode, Memory}
 
@@ -24,4 +24,4 @@ abbrev pub fault_line : Fault → ℕ
 fault_line fault = (fault_parts fault).0
 
 abbrev pub fault_text : Fault → List ℕ
-fault_text fault = of_line (fault_line fault) (fault_parts fault).1
+fault_text fault = with_line_number (fault_line fault) (fault_parts fault).1

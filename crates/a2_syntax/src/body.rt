@@ -29,8 +29,8 @@ fn unquoted(piece: &[u8]) -> Option<(u8, &[u8])>
         ((quote : ℕ) (text : List ℕ) → IsQuoted quote text piece.now → 0 < length text → ⊥)
         (λ r. IsQuoted r.0 r.1.now piece.now × (0 < length r.1.now)) }
 {
-    let (quote, behind) = piece.split_first()?;
-    let (last, text) = behind.split_last()?;
+    let (quote, following) = piece.split_first()?;
+    let (last, text) = following.split_last()?;
     if !is_quote(*quote) || *last != *quote || text.len() == 0 {
         return None;
     }

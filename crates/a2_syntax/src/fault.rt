@@ -4,7 +4,7 @@ ghost use Rattle.std.specs.Prelude.{◌≡◌, ◌≤◌, Some, length};
 ghost use Rattle.a2_syntax.specs.Texts.{fault_line, fault_parts, fault_text};
 ghost use Rattle.a2_syntax.specs.declared.fault.Fault.TheVariants.{Memory};
 
-use a2_text::{RefusalText, refusal_text};
+use a2_text::{ErrorText, error_text};
 use std::alloc::{AllocError, AllocFailed};
 use std::error::Error;
 use std::fmt;
@@ -73,11 +73,11 @@ impl Fault {
 
     /// Returns the error message. If the error belongs to a line, the message starts with `LINE `, the line number
     /// and a space.
-    pub fn text(&self) -> RefusalText
+    pub fn text(&self) -> ErrorText
         ensures { result.bytes ≡ fault_text self.now }
     {
         let (line, words) = self.parts();
-        refusal_text(usize::from(line), words)
+        error_text(usize::from(line), words)
     }
 }
 

@@ -30,10 +30,11 @@ mod word;
 
 pub use fault::Fault;
 pub use limits::lines;
-pub use listed::{a_listed_operand_is_its_operand, a_listing_is_its_line};
+pub use listed::{a_listed_operand_is_source_text, a_listing_line_is_source_text};
 pub use operation::Operation;
 pub use parser::{
-    a_refused_text_is_no_source, a_text_has_one_refusal, a_text_is_one_source, parse,
+    a_text_has_at_most_one_error, a_text_has_at_most_one_list_of_lines,
+    a_text_with_an_error_is_not_a_source, parse,
 };
 pub use source::{
     Body, Bytes, Expr, Exprs, Few, Line, Name, Operand, Part, Signed, Source, Term, Terms,

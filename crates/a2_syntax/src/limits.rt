@@ -3,8 +3,8 @@
 ghost use Rattle.std.specs.Prelude.{◌≡◌, ◌≢◌, ◌≤◌, length, map, vec_len, IfOk, IfErr, None, Some, MatchOption};
 ghost use Rattle.std.specs.List.{All};
 ghost use Rattle.a2_text.specs.Lines as cut;
-ghost use Rattle.a2_text.specs.Refusals.{first_line};
-ghost use Rattle.a2_syntax.specs.Limits.{refuse_long_line, size_refusal};
+ghost use Rattle.a2_text.specs.FirstError.{first_line_error};
+ghost use Rattle.a2_syntax.specs.Limits.{long_line_error, size_error};
 
 use crate::fault::Fault;
 use a2_text::cut;
@@ -24,8 +24,8 @@ pub fn lines<A: Allocator>(alloc: A, text: &[u8]) -> Result<Vec<&[u8], A>, Fault
     ensures found { IfOk result (λ found. map (λ x. x.now) found.items ≡ cut.lines text.now) }
     ensures few { IfOk result (λ found. vec_len found ≤ 4096) }
     ensures short { IfOk result (λ found. All (λ line. length line.now ≤ 255) found.items) }
-    ensures fits { IfOk result (λ _. size_refusal text.now ≡ None) }
-    ensures refused { IfErr result (λ fault. fault ≢ Fault.Memory → size_refusal text.now ≡ Some fault) }
+    ensures fits { IfOk result (λ _. size_error text.now ≡ None) }
+    ensures refused { IfErr result (λ fault. fault ≢ Fault.Memory → size_error text.now ≡ Some fault) }
 {
     if text.len() > 65536 {
         return Err(Fault::TooLarge(0));
@@ -44,8 +44,8 @@ pub fn lines<A: Allocator>(alloc: A, text: &[u8]) -> Result<Vec<&[u8], A>, Fault
 fn first_long(found: &[&[u8]]) -> Option<u16>
     requires { length found.now ≤ 4096 }
     ensures { MatchOption result
-        (first_line refuse_long_line 1 (map (λ x. x.now) found.now) ≡ None)
-        (λ n. first_line refuse_long_line 1 (map (λ x. x.now) found.now) ≡ Some (Fault.TooLarge n)) }
+        (first_line_error long_line_error 1 (map (λ x. x.now) found.now) ≡ None)
+        (λ n. first_line_error long_line_error 1 (map (λ x. x.now) found.now) ≡ Some (Fault.TooLarge n)) }
 {
     let mut n = 1;
     for line in found {

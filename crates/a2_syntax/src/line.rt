@@ -3,16 +3,16 @@
 ghost use Rattle.std.specs.Prelude.{◌≡◌, ◌≤◌, not, length, None, IfOk};
 ghost use Rattle.a2_syntax.specs.Relations.{Finds};
 ghost use Rattle.a2_syntax.specs.Reading.{is_starred};
-ghost use Rattle.a2_syntax.specs.Grammar.{IsBody, may_stand, IsLine};
+ghost use Rattle.a2_syntax.specs.Grammar.{IsBody, has_needed_label, IsLine};
 
 use crate::body::operation_body;
 use crate::operation::named;
-use crate::piece::{front_run, is_gap, is_over, pieces};
+use crate::piece::{is_gap, is_over, pieces, split_name_bytes};
 use crate::plain::plain_body;
 use crate::source::{Body, Line};
 use crate::term::name_of;
 use crate::word::is_name;
-use a2_text::behind_blanks;
+use a2_text::after_blanks;
 use std::alloc::{AllocError, Allocator};
 
 // Parses what follows the label. The previous contents of `pieces` are discarded.
@@ -24,11 +24,11 @@ fn body<'a, A: Allocator + Copy>(
     requires { length text.now ≤ 255 }
     ensures { IfOk result (λ o. Finds (IsBody text.now) o) }
 {
-    let here = behind_blanks(text);
+    let here = after_blanks(text);
     if is_over(here) {
         return Ok(Some(Body::Empty));
     }
-    let (word, after) = front_run(here);
+    let (word, after) = split_name_bytes(here);
     if !is_gap(after) {
         return Ok(None);
     }
@@ -45,7 +45,7 @@ fn body<'a, A: Allocator + Copy>(
 }
 
 fn needs_label<A: Allocator>(body: &Body<A>) -> bool
-    ensures { result ≡ not (may_stand None body.now) }
+    ensures { result ≡ not (has_needed_label None body.now) }
 {
     matches!(body, Body::Equ(_))
 }
@@ -72,7 +72,7 @@ pub(crate) fn line<'a, A: Allocator + Copy>(
             body: Body::Empty,
         }));
     }
-    let (word, rest) = front_run(text);
+    let (word, rest) = split_name_bytes(text);
     if !is_gap(rest) {
         return Ok(None);
     }

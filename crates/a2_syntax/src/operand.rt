@@ -31,8 +31,8 @@ fn is_letter(piece: &[u8], c: u8) -> bool
 }
 
 // Returns the pieces after this first piece, or `None` if the first piece is another one.
-fn behind<'a, 'b>(pieces: &'a [&'b [u8]], c: u8) -> Option<&'a [&'b [u8]]>
-    ensures is { option_map (λ r. map (λ x. x.now) r.now) result ≡ shapes.behind (is_byte c) (map (λ x. x.now) pieces.now) }
+fn following<'a, 'b>(pieces: &'a [&'b [u8]], c: u8) -> Option<&'a [&'b [u8]]>
+    ensures is { option_map (λ r. map (λ x. x.now) r.now) result ≡ shapes.following (is_byte c) (map (λ x. x.now) pieces.now) }
     ensures within { IfSome result (λ r. length r.now ≤ length pieces.now) }
 {
     let (first, rest) = pieces.split_first()?;
@@ -40,7 +40,7 @@ fn behind<'a, 'b>(pieces: &'a [&'b [u8]], c: u8) -> Option<&'a [&'b [u8]]>
 }
 
 // Returns the pieces before this last piece, or `None` if the last piece is another one.
-fn front_of<'a, 'b>(pieces: &'a [&'b [u8]], c: u8) -> Option<&'a [&'b [u8]]>
+fn before_last<'a, 'b>(pieces: &'a [&'b [u8]], c: u8) -> Option<&'a [&'b [u8]]>
     ensures is { option_map (λ r. map (λ x. x.now) r.now) result ≡ shapes.before (is_byte c) (map (λ x. x.now) pieces.now) }
     ensures within { IfSome result (λ r. length r.now ≤ length pieces.now) }
 {
@@ -55,7 +55,7 @@ fn indexed<'a, 'b>(pieces: &'a [&'b [u8]], c: u8) -> Option<&'a [&'b [u8]]>
 {
     let (last, front) = pieces.split_last()?;
     if is_letter(*last, c) {
-        front_of(front, b',')
+        before_last(front, b',')
     } else {
         None
     }
@@ -72,8 +72,8 @@ fn enclosed<'a, 'b>(pieces: &'a [&'b [u8]]) -> Option<&'a [&'b [u8]]>
     ensures is { option_map (λ r. map (λ x. x.now) r.now) result ≡ shapes.enclosed (map (λ x. x.now) pieces.now) }
     ensures within { IfSome result (λ r. length r.now ≤ length pieces.now) }
 {
-    let rest = behind(pieces, b'(')?;
-    front_of(rest, b')')
+    let rest = following(pieces, b'(')?;
+    before_last(rest, b')')
 }
 
 // Returns the shape of an operand, and the pieces of its expression. The operand must not be empty or a single
@@ -82,7 +82,7 @@ fn shape_of<'a, 'b>(pieces: &'a [&'b [u8]]) -> (Shape, &'a [&'b [u8]])
     ensures is { (result.0, map (λ x. x.now) result.1.now) ≡ shapes.shape_of (map (λ x. x.now) pieces.now) }
     ensures within { length result.1.now ≤ length pieces.now }
 {
-    if let Some(es) = behind(pieces, b'#') {
+    if let Some(es) = following(pieces, b'#') {
         return (Shape::Immediate, es);
     }
     if let Some(inner) = enclosed(pieces) {

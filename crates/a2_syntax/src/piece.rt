@@ -6,7 +6,7 @@ ghost use Rattle.a2_syntax.specs.Pieces.{is_over, is_gap, Spells};
 ghost use Rattle.a2_syntax.specs.Reading as reading;
 
 use crate::word::in_name;
-use a2_text::{behind_blanks, front_len, is_blank};
+use a2_text::{after_blanks, front_len, is_blank};
 use std::alloc::{AllocError, Allocator};
 
 // Returns the number of name bytes at the start of a text.
@@ -46,7 +46,7 @@ fn quoted_len(quote: u8, text: &[u8]) -> usize
 }
 
 // Splits a text after the name bytes at its start.
-pub(crate) fn front_run(text: &[u8]) -> (&[u8], &[u8])
+pub(crate) fn split_name_bytes(text: &[u8]) -> (&[u8], &[u8])
     ensures word { result.0.now ≡ take (reading.run_len text.now) text.now }
     ensures rest { result.1.now ≡ drop (reading.run_len text.now) text.now }
 {
@@ -107,7 +107,7 @@ pub(crate) fn pieces<'a, A: Allocator>(
     found.reserve(text.len())?;
     let mut rest = text;
     'pieces: loop {
-        let here = behind_blanks(rest);
+        let here = after_blanks(rest);
         if is_over(here) {
             return Ok(true);
         }

@@ -7,10 +7,10 @@ ghost use Rattle.a2_syntax.specs.Listed.{one_number};
 ghost use Rattle.a2_syntax.specs.Reading.{SpellsExprs};
 
 use crate::operation::Operation;
-use crate::piece::{front_run, is_over};
+use crate::piece::{is_over, split_name_bytes};
 use crate::source::{Body, Expr, Exprs, Few, Part, Signed, Term};
 use crate::term::number;
-use a2_text::behind_blanks;
+use a2_text::after_blanks;
 use std::alloc::{AllocError, Allocator};
 
 // Returns the number of commas in a text.
@@ -49,12 +49,12 @@ fn numbers<A: Allocator + Copy>(alloc: A, text: &[u8]) -> Result<Option<Exprs<A>
     let mut found = Vec::with_capacity(alloc, commas(text) + 1)?;
     let mut rest = text;
     'numbers: loop {
-        let (digits, behind) = front_run(behind_blanks(rest));
+        let (digits, following) = split_name_bytes(after_blanks(rest));
         let Some(n) = number(digits) else {
             return Ok(None);
         };
         found.push(one_number(alloc, n)?)?;
-        let next = behind_blanks(behind);
+        let next = after_blanks(following);
         if is_over(next) {
             return Ok(Some(Few::of(found)));
         }

@@ -12,7 +12,7 @@ use Rattle.a2_machine.specs.State.{Device, IsMachineRun, world_of_state, steps_l
 use Rattle.a2_run.specs.Meaning.{code_of_run, start_of_run}
 use Rattle.a2_run.specs.Started.{IsStarted, guard_of_run}
 use Rattle.a2_run.proofs.Runs.{meant}
-use Rattle.a2_tests.specs.Asks.{end_at}
+use Rattle.a2_tests.specs.Requirements.{end_at}
 
 -- the bytes that an output has taken
 abbrev pub took : Taker → List ℕ

@@ -3,7 +3,7 @@ use Rattle.std.specs.Prelude.{ℕ, ◌==◌, Bool, true, false, List, [], ◌∷
 use Rattle.std.specs.List.{concat}
 use Rattle.a2_text.specs.Words.{words}
 use Rattle.a2_tests.specs.Settings.{name_in, digits_in}
-use Rattle.a2_tests.specs.declared.line.Asked.{Asked}
+use Rattle.a2_tests.specs.declared.line.NumberedLine.{NumberedLine}
 use Rattle.a2_tests.specs.declared.line.Line.{Line}
 use Rattle.a2_tests.specs.declared.line.Line.TheVariants as line
 use Rattle.a2_tests.specs.declared.line.Call.{Call}
@@ -51,7 +51,7 @@ call_or before (line.Call call) = Some call
 call_or before _ = before
 
 -- the call of the last line that calls a routine
-abbrev pub call_from : Option Call → List Asked → Option Call
+abbrev pub call_from : Option Call → List NumberedLine → Option Call
 call_from before [] = before
 call_from before (asked ∷ rest) = call_from (call_or before asked.line) rest
 
@@ -60,5 +60,5 @@ text_of None source = source
 text_of (Some call) source = calling_text call.name.now call.settings.now source
 
 -- the text that runs in a case
-abbrev pub case_text : List Asked → List ℕ → List ℕ
+abbrev pub case_text : List NumberedLine → List ℕ → List ℕ
 case_text lines source = text_of (call_from None lines) source

@@ -1,6 +1,6 @@
 pub mod Settings
 pub mod Lines
 pub mod Rows
-pub mod Asks
+pub mod Requirements
 pub mod Calls
 pub mod Judging

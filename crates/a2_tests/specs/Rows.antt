@@ -2,7 +2,7 @@
 use Rattle.std.specs.Prelude.{ℕ, Bool, true, false, not, if◌then◌else◌, ◌==◌, ◌&&◌, ◌||◌, List, [], ◌∷◌, Some, None, nat_eq, slice_get}
 use Rattle.std.specs.List.{list_all, list_any, starts_with}
 use Rattle.a2_text.specs.Bytes.{is_blank}
-use Rattle.a2_tests.specs.declared.line.Asked.{Asked}
+use Rattle.a2_tests.specs.declared.line.NumberedLine.{NumberedLine}
 use Rattle.a2_tests.specs.declared.line.Line.{Line}
 use Rattle.a2_tests.specs.declared.line.Line.TheVariants.{Row}
 
@@ -29,27 +29,27 @@ abbrev pub is_row : Line → Bool
 is_row (Row text) = true
 is_row _ = false
 
-abbrev pub first_row : List Asked → List ℕ
+abbrev pub first_row : List NumberedLine → List ℕ
 first_row [] = []
 first_row (asked ∷ rest) = row_of asked.line
 
-abbrev pub begins_with_row : List Asked → Bool
+abbrev pub begins_with_row : List NumberedLine → Bool
 begins_with_row [] = false
 begins_with_row (asked ∷ rest) = is_row asked.line
 
-abbrev pub behind_row : List Asked → List Asked
-behind_row [] = []
-behind_row (asked ∷ rest) = if is_row asked.line then rest else asked ∷ rest
+abbrev pub after_row : List NumberedLine → List NumberedLine
+after_row [] = []
+after_row (asked ∷ rest) = if is_row asked.line then rest else asked ∷ rest
 
 -- 1 if the lines begin with a row, otherwise 0
-abbrev pub row_count : List Asked → ℕ
+abbrev pub row_count : List NumberedLine → ℕ
 row_count lines = if begins_with_row lines then 1 else 0
 
 -- the rows of a screen, from the top, are those of these lines, and the remaining rows are blank; no more rows are
 -- required
-abbrev pub rows_fit : List Asked → List (List ℕ) → Bool
+abbrev pub rows_fit : List NumberedLine → List (List ℕ) → Bool
 rows_fit wanted [] = not (begins_with_row wanted)
-rows_fit wanted (row ∷ rows) = row_fits (first_row wanted) row && rows_fit (behind_row wanted) rows
+rows_fit wanted (row ∷ rows) = row_fits (first_row wanted) row && rows_fit (after_row wanted) rows
 
 -- the row with this number, from 0 at the top, is the expected one
 abbrev pub row_is : ℕ → List ℕ → List (List ℕ) → Bool

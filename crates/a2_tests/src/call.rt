@@ -5,7 +5,7 @@ ghost use Rattle.std.specs.List.{flat_map};
 ghost use Rattle.a2_text.specs.Words.{words};
 ghost use Rattle.a2_tests.specs.Calls as said;
 
-use crate::line::{Asked, Call, Line};
+use crate::line::{Call, Line, NumberedLine};
 use crate::settings::{digits_in, name_in};
 use a2_text::first_word;
 use std::alloc::{AllocError, Allocator};
@@ -21,7 +21,7 @@ fn call_or<'a>(before: Option<Call<'a>>, line: Line<'a>) -> Option<Call<'a>>
 }
 
 /// Returns the call of a routine that some lines ask for; the last such line counts.
-pub(crate) fn call_in<'a>(lines: &[Asked<'a>]) -> Option<Call<'a>>
+pub(crate) fn call_in<'a>(lines: &[NumberedLine<'a>]) -> Option<Call<'a>>
     ensures { result ≡ said.call_from None lines.now }
 {
     let mut found = None;
@@ -112,9 +112,9 @@ fn append_settings<A: Allocator>(
     ensures { OnOk result (text.new.items ≡ text.old.items ++ said.all_lines stores (words settings.now)) }
 {
     let mut rest = settings;
-    while let Some((word, behind)) = first_word(rest) {
+    while let Some((word, following)) = first_word(rest) {
         append_setting(text, word, stores)?;
-        rest = behind;
+        rest = following;
     }
     Ok(())
 }

@@ -2,25 +2,26 @@
 
 ghost use Rattle.std.specs.Prelude.{◌≤◌, length};
 
-use crate::line::{Asked, Line, asked_of};
+use crate::line::{Line, NumberedLine, numbered_line};
+use a2_machine::Cause;
 use std::alloc::{AllocError, Allocator};
 
 /// A case: its name, which is empty if the WANT file has no cases, and its lines. They begin with the lines before the
-/// first case.
+/// first case. If the case calls a routine and no line says how the run stops, the first line requires that it returns.
 #[derive(Drop)]
 pub struct Case<'a, A: Allocator> {
     pub name: &'a [u8],
-    pub lines: Vec<Asked<'a>, A>,
+    pub lines: Vec<NumberedLine<'a>, A>,
 }
 
 /// Returns the meaning of each line of a WANT file. Fails only if memory runs out.
 pub fn lines_of<'a, A: Allocator>(
     alloc: A,
     texts: &[&'a [u8]],
-) -> Result<Vec<Asked<'a>, A>, AllocError> {
+) -> Result<Vec<NumberedLine<'a>, A>, AllocError> {
     let mut lines = Vec::new(alloc);
     for (index, text) in texts.iter().enumerate() {
-        lines.push(asked_of(index + 1, *text))?;
+        lines.push(numbered_line(index + 1, *text))?;
     }
     Ok(lines)
 }
@@ -34,7 +35,7 @@ fn case_in<'a>(line: Line<'a>) -> Option<&'a [u8]> {
 }
 
 // Returns how many lines come before the first line that begins a case.
-fn front_of(lines: &[Asked]) -> usize
+fn front_of(lines: &[NumberedLine]) -> usize
     ensures { result ≤ length lines.now }
 {
     for (index, asked) in lines.iter().enumerate() {
@@ -46,8 +47,47 @@ fn front_of(lines: &[Asked]) -> usize
 }
 
 // Returns the lines before the first line that begins a case.
-fn front<'a, 'b>(lines: &'b [Asked<'a>]) -> &'b [Asked<'a>] {
+fn front<'a, 'b>(lines: &'b [NumberedLine<'a>]) -> &'b [NumberedLine<'a>] {
     &lines[..front_of(lines)]
+}
+
+// The last line that calls a routine, and whether a line says how the run stops.
+#[derive(Clone, Copy)]
+struct Called {
+    number: Option<usize>,
+    has_stop: bool,
+}
+
+// Returns the same for these lines and the lines before them.
+fn called_in(before: Called, lines: &[NumberedLine]) -> Called {
+    let mut called = before;
+    for asked in lines {
+        match asked.line {
+            Line::Call(_) => called.number = Some(asked.number),
+            Line::Stop(_) => called.has_stop = true,
+            _ => {}
+        }
+    }
+    called
+}
+
+// Returns the requirement that the called routine returns, with the number of the line that calls it, unless a line says how the run
+// stops.
+fn return_in<'a>(head: &[NumberedLine], body: &[NumberedLine]) -> Option<NumberedLine<'a>> {
+    let nothing = Called {
+        number: None,
+        has_stop: false,
+    };
+    match called_in(called_in(nothing, head), body) {
+        Called {
+            number: Some(number),
+            has_stop: false,
+        } => Some(NumberedLine {
+            number,
+            line: Line::Stop(Cause::Returned),
+        }),
+        _ => None,
+    }
 }
 
 // Adds the case with this name, whose lines follow those before the first case.
@@ -55,10 +95,13 @@ fn push_case<'a, A: Allocator>(
     cases: &mut Vec<Case<'a, A>, A>,
     alloc: A,
     name: &'a [u8],
-    head: &[Asked<'a>],
-    body: &[Asked<'a>],
+    head: &[NumberedLine<'a>],
+    body: &[NumberedLine<'a>],
 ) -> Result<(), AllocError> {
     let mut lines = Vec::new(alloc);
+    if let Some(returns) = return_in(head, body) {
+        lines.push(returns)?;
+    }
     lines.extend_from_slice(head)?;
     lines.extend_from_slice(body)?;
     cases.push(Case { name, lines })?;
@@ -70,7 +113,7 @@ fn push_case<'a, A: Allocator>(
 /// memory runs out.
 pub fn cases_of<'a, A: Allocator + Copy>(
     alloc: A,
-    lines: &[Asked<'a>],
+    lines: &[NumberedLine<'a>],
 ) -> Result<Vec<Case<'a, A>, A>, AllocError> {
     let (head, rest) = lines.split_at(front_of(lines));
     let mut cases = Vec::new(alloc);

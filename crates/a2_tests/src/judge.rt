@@ -1,25 +1,23 @@
 //! Judging a source, case by case.
 
-ghost use Rattle.std.specs.Prelude.{◌≡◌, [], Some, IfOk, IfErr};
+ghost use Rattle.std.specs.Prelude.{◌≡◌, [], Some, IfOk};
 ghost use Rattle.a2_bus.specs.View.{memory_of};
-ghost use Rattle.a2_asm.specs.Assembled.{Assembled};
 ghost use Rattle.a2_machine.specs.Meaning.{End};
 ghost use Rattle.a2_run.specs.Meaning.{IsProgramOf, picture_of as picture};
-ghost use Rattle.a2_run.specs.Started.{RefusesText};
-ghost use Rattle.a2_tests.specs.Asks.{IsFirstMissed, end_at};
+ghost use Rattle.a2_tests.specs.Requirements.{IsFirstMissed, end_at};
 ghost use Rattle.a2_tests.specs.Judging as judging;
-ghost use Rattle.a2_tests.specs.Judging.{AreKeys, AreVerdicts, IsFound, IsVerdict, IsVerdictOf, RunsTo};
+ghost use Rattle.a2_tests.specs.Judging.{AreKeys, AreVerdicts, IsVerdictOnEnd, IsVerdict, IsVerdictOf, RunsTo};
 
-use crate::asks::{Ending, first_missed};
 use crate::call::{call_in, calling_text};
 use crate::cases::Case;
-use crate::line::{Asked, Line, behind};
-use crate::told::told_of_miss;
+use crate::line::{Line, NumberedLine, following};
+use crate::miss_report::miss_report;
+use crate::requirements::{Ending, first_missed};
 use a2_asm::Program;
 use a2_bus::Keys;
 use a2_machine::{Cause, Machine};
 use a2_page::print;
-use a2_run::{DEFAULT_STEPS, RunFault, program_of, started};
+use a2_run::{AssembledText, DEFAULT_STEPS, RunFault, program_of, started};
 use a2_stream::{Kept, Output};
 use a2_text::cut;
 use std::alloc::{AllocError, Allocator};
@@ -57,7 +55,7 @@ fn limit_or(before: u32, line: Line) -> u32
 }
 
 // Returns the most steps that some lines allow; the last limit counts.
-fn limit_in(lines: &[Asked]) -> u32
+fn limit_in(lines: &[NumberedLine]) -> u32
     ensures { result ≡ judging.limit_of lines.now }
 {
     let mut limit = DEFAULT_STEPS;
@@ -78,7 +76,7 @@ fn keys_or<'a>(before: &'a str, line: Line<'a>) -> &'a str
 }
 
 // Returns the keys that wait at the start, as they are spelled; the last line with keys counts.
-fn spelling_in<'a>(lines: &[Asked<'a>]) -> &'a str
+fn spelling_in<'a>(lines: &[NumberedLine<'a>]) -> &'a str
     ensures { result.now ≡ judging.keys_from [] lines.now }
 {
     let mut keys = "";
@@ -89,7 +87,7 @@ fn spelling_in<'a>(lines: &[Asked<'a>]) -> &'a str
 }
 
 // Returns the keys that wait at the start.
-fn keys_in(lines: &[Asked]) -> Keys
+fn keys_in(lines: &[NumberedLine]) -> Keys
     ensures { AreKeys (judging.keys_from [] lines.now) result }
 {
     match Keys::parse(spelling_in(lines)) {
@@ -112,27 +110,27 @@ fn picture_of<A: Allocator + Copy>(alloc: A, machine: &Machine<A>) -> Result<Kep
 // Returns the report on the first line whose requirement is not met.
 fn missed<A: Allocator + Copy>(
     alloc: A,
-    lines: &[Asked],
+    lines: &[NumberedLine],
     index: usize,
     ending: &Ending<A>,
 ) -> Result<Verdict<A>, AllocError>
     requires { IsFirstMissed lines.now ending.now.program.now (end_at ending.now.machine.now.state ending.now.cause) index }
     ensures { IfOk result (λ verdict.
-        IsFound lines.now ending.now.program.now (end_at ending.now.machine.now.state ending.now.cause) verdict) }
+        IsVerdictOnEnd lines.now ending.now.program.now (end_at ending.now.machine.now.state ending.now.cause) verdict) }
 {
-    let told = told_of_miss(alloc, behind(lines, index), ending)?;
-    Ok(Verdict::Missed(lines[index].number, told))
+    let report = miss_report(alloc, following(lines, index), ending)?;
+    Ok(Verdict::Missed(lines[index].number, report))
 }
 
 // Returns the verdict on a run that ended.
-fn weighed<A: Allocator + Copy>(
+fn verdict_of_end<A: Allocator + Copy>(
     alloc: A,
-    lines: &[Asked],
+    lines: &[NumberedLine],
     program: &Program<A>,
     machine: &Machine<A>,
     cause: Cause,
 ) -> Result<Verdict<A>, AllocError>
-    ensures { IfOk result (λ verdict. IsFound lines.now program.now (end_at machine.now.state cause) verdict) }
+    ensures { IfOk result (λ verdict. IsVerdictOnEnd lines.now program.now (end_at machine.now.state cause) verdict) }
 {
     let picture = picture_of(alloc, machine)?;
     let rows = cut(alloc, picture.as_slice())?;
@@ -149,34 +147,34 @@ fn weighed<A: Allocator + Copy>(
 }
 
 // Returns the verdict on the run of a program; names and statements are those of the source's program.
-fn ran<A: Allocator + Copy>(
+fn verdict_of_run<A: Allocator + Copy>(
     alloc: A,
-    lines: &[Asked],
+    lines: &[NumberedLine],
     program: &Program<A>,
     running: &Program<A>,
 ) -> Result<Verdict<A>, AllocError>
     ensures { IfOk result (λ verdict. (end : End) × RunsTo lines.now running.now end
-        × IsFound lines.now program.now end verdict) }
+        × IsVerdictOnEnd lines.now program.now end verdict) }
 {
     // Only for the prover: a law about every program, by which its guarded bytes run as its statements.
     running.is_sound();
     let keys = keys_in(lines);
     let mut machine = started(alloc, running, &keys, false)?;
     let cause = machine.run(limit_in(lines));
-    weighed(alloc, lines, program, &machine, cause)
+    verdict_of_end(alloc, lines, program, &machine, cause)
 }
 
 // Returns the verdict on a case that calls a routine.
 fn judge_call<A: Allocator + Copy>(
     alloc: A,
-    lines: &[Asked],
+    lines: &[NumberedLine],
     text: &[u8],
     program: &Program<A>,
 ) -> Result<Verdict<A>, AllocError>
     ensures { IfOk result (λ verdict. IsVerdictOf lines.now text.now program.now verdict) }
 {
     match program_of(alloc, text) {
-        Ok(running) => ran(alloc, lines, program, &running),
+        Ok(running) => verdict_of_run(alloc, lines, program, &running),
         Err(RunFault::Source(_)) => Ok(Verdict::NotCalled),
         Err(_) => Err(AllocError),
     }
@@ -185,7 +183,7 @@ fn judge_call<A: Allocator + Copy>(
 // Returns the verdict on a case, for a source with this program.
 fn judge_case<A: Allocator + Copy>(
     alloc: A,
-    lines: &[Asked],
+    lines: &[NumberedLine],
     source: &[u8],
     program: &Program<A>,
 ) -> Result<Verdict<A>, AllocError>
@@ -197,7 +195,7 @@ fn judge_case<A: Allocator + Copy>(
             let text = calling_text(alloc, call, source)?;
             judge_call(alloc, lines, text.as_slice(), program)
         }
-        None => ran(alloc, lines, program, program),
+        None => verdict_of_run(alloc, lines, program, program),
     }
 }
 
@@ -219,16 +217,13 @@ fn judge_cases<A: Allocator + Copy>(
 }
 
 /// Returns the verdict on a source in each of these cases. A case passes exactly if the end of its run meets all its
-/// requirements. Fails if the source has errors, or if memory runs out. This project's profile.
+/// requirements. Fails only if memory runs out. This project's profile.
 pub fn judge_source<A: Allocator + Copy>(
     alloc: A,
     cases: &[Case<A>],
-    source: &[u8],
-) -> Result<Vec<Verdict<A>, A>, RunFault>
-    ensures judged { IfOk result (λ verdicts. (program : Assembled) × IsProgramOf source.now program
-        × AreVerdicts source.now program cases.now verdicts.items) }
-    ensures refused { IfErr result (λ fault. RefusesText source.now fault) }
+    assembled: &AssembledText<'_, A>,
+) -> Result<Vec<Verdict<A>, A>, AllocError>
+    ensures { IfOk result (λ verdicts. AreVerdicts assembled.now.text assembled.now.program cases.now verdicts.items) }
 {
-    let program = program_of(alloc, source)?;
-    Ok(judge_cases(alloc, cases, source, &program)?)
+    judge_cases(alloc, cases, assembled.text(), assembled.program())
 }

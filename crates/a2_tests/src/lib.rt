@@ -3,17 +3,17 @@
 //! CALLING.md shows how to call it.
 #![tactic(auto)]
 
-mod asks;
 mod call;
 mod cases;
 mod judge;
 mod line;
+mod miss_report;
 mod report;
+mod requirements;
 mod rows;
 mod settings;
-mod told;
 
 pub use cases::{Case, cases_of, lines_of};
 pub use judge::{Verdict, judge_source};
-pub use line::{Asked, Line, asked_of, is_asking};
-pub use report::{Format, Found, Totals, put_head, put_solution, put_tail};
+pub use line::{Line, NumberedLine, begins_want_line, numbered_line};
+pub use report::{Format, Found, NOT_CALLED, Totals, put_head, put_solution, put_tail};

@@ -10,7 +10,7 @@ use a2_bus::Keys;
 use a2_machine::Cause;
 use a2_opcode::Mnemonic;
 use a2_run::step_limit;
-use a2_text::{behind_blanks, first_word, number_in, only_word, split_word};
+use a2_text::{after_blanks, first_word, number_in, only_word, split_word};
 
 /// The meaning of a line of a WANT file. Each text in it is a part of the line.
 #[derive(Clone, Copy)]
@@ -60,13 +60,16 @@ pub struct Call<'a> {
 
 /// A line of a WANT file with its number, from 1.
 #[derive(Clone, Copy)]
-pub struct Asked<'a> {
+pub struct NumberedLine<'a> {
     pub number: usize,
     pub line: Line<'a>,
 }
 
 /// Returns the lines after the first `count`.
-pub(crate) fn behind<'a, 'b>(lines: &'b [Asked<'a>], count: usize) -> &'b [Asked<'a>]
+pub(crate) fn following<'a, 'b>(
+    lines: &'b [NumberedLine<'a>],
+    count: usize,
+) -> &'b [NumberedLine<'a>]
     requires { count ≤ length lines.now }
     ensures { result.now ≡ drop count lines.now }
 {
@@ -153,8 +156,8 @@ fn number_of(word: &[u8]) -> Option<u32>
 
 // Returns the text after the first word of `text`, if that is `word`.
 fn after<'a>(word: &[u8], text: &'a [u8]) -> Option<&'a [u8]> {
-    let (first, behind) = first_word(text)?;
-    if first == word { Some(behind) } else { None }
+    let (first, following) = first_word(text)?;
+    if first == word { Some(following) } else { None }
 }
 
 // Returns the only number after a verb.
@@ -212,11 +215,11 @@ fn is_kind(kind: Kind, word: &[u8]) -> bool {
 // Returns whether all words of a text are of a kind.
 fn are_all(kind: Kind, text: &[u8]) -> bool {
     let mut rest = text;
-    while let Some((word, behind)) = first_word(rest) {
+    while let Some((word, following)) = first_word(rest) {
         if !is_kind(kind, word) {
             return false;
         }
-        rest = behind;
+        rest = following;
     }
     true
 }
@@ -225,8 +228,8 @@ fn are_all(kind: Kind, text: &[u8]) -> bool {
 fn are_same_words(text: &[u8], other: &[u8]) -> bool {
     match first_word(text) {
         None => first_word(other).is_none(),
-        Some((word, behind)) => match first_word(other) {
-            Some((same, rest)) if same == word => are_same_words(behind, rest),
+        Some((word, following)) => match first_word(other) {
+            Some((same, rest)) if same == word => are_same_words(following, rest),
             _ => false,
         },
     }
@@ -258,7 +261,7 @@ fn must<'a>(rest: &'a [u8]) -> Option<Line<'a>> {
 
 // Returns the text between the quotes.
 fn quoted(text: &[u8]) -> Option<&[u8]> {
-    match behind_blanks(text) {
+    match after_blanks(text) {
         [b'"', inner @ .., b'"'] => Some(inner),
         _ => None,
     }
@@ -266,9 +269,9 @@ fn quoted(text: &[u8]) -> Option<&[u8]> {
 
 // Parses the text after `screen row`.
 fn shown<'a>(rest: &'a [u8]) -> Option<Line<'a>> {
-    let (number, behind) = first_word(rest)?;
+    let (number, following) = first_word(rest)?;
     let number = number_in(10, 2, number)?;
-    Some(Line::Shows(number, quoted(after(b"=", behind)?)?))
+    Some(Line::Shows(number, quoted(after(b"=", following)?)?))
 }
 
 // Parses the text after `screen`.
@@ -284,11 +287,11 @@ fn screen<'a>(rest: &'a [u8]) -> Option<Line<'a>> {
 
 // Parses the text after `mem`.
 fn mem<'a>(rest: &'a [u8]) -> Option<Line<'a>> {
-    let (place, behind) = first_word(rest)?;
+    let (place, following) = first_word(rest)?;
     let Ok(place) = std::str::from_utf8(place) else {
         return None;
     };
-    let bytes = after(b"=", behind)?;
+    let bytes = after(b"=", following)?;
     if first_word(bytes).is_some() && are_all(Kind::Byte, bytes) {
         Some(Line::Mem(place, bytes))
     } else {
@@ -318,7 +321,7 @@ fn called<'a>(rest: &'a [u8]) -> Option<Line<'a>> {
 // Parses the text after a verb.
 fn said<'a>(verb: Verb, rest: &'a [u8]) -> Option<Line<'a>> {
     match verb {
-        Verb::Case => Some(Line::Case(behind_blanks(rest))),
+        Verb::Case => Some(Line::Case(after_blanks(rest))),
         Verb::Keys => Some(Line::Keys(keys_in(rest)?)),
         Verb::Limit => Some(Line::Limit(limit_in(rest)?)),
         Verb::Call => called(rest),
@@ -340,7 +343,7 @@ fn worded<'a>(text: &'a [u8]) -> Option<Line<'a>> {
 
 /// Parses a line.
 pub(crate) fn line_of<'a>(text: &'a [u8]) -> Line<'a> {
-    match behind_blanks(text) {
+    match after_blanks(text) {
         [] | [b';', ..] => Line::Silent,
         [b'|', row @ ..] => Line::Row(row),
         here => match worded(here) {
@@ -352,8 +355,8 @@ pub(crate) fn line_of<'a>(text: &'a [u8]) -> Line<'a> {
 
 /// Returns whether a text begins like a line of a WANT file that says something: with a verb or with `|`. The rest of
 /// the text may still be invalid.
-pub fn is_asking(text: &[u8]) -> bool {
-    match behind_blanks(text) {
+pub fn begins_want_line(text: &[u8]) -> bool {
+    match after_blanks(text) {
         [b'|', ..] => true,
         here => {
             let (word, _) = split_word(here);
@@ -363,10 +366,10 @@ pub fn is_asking(text: &[u8]) -> bool {
 }
 
 /// Returns the meaning of a text as the line of a WANT file with this number, from 1.
-pub fn asked_of<'a>(number: usize, text: &'a [u8]) -> Asked<'a>
+pub fn numbered_line<'a>(number: usize, text: &'a [u8]) -> NumberedLine<'a>
     ensures { result.number ≡ number }
 {
-    Asked {
+    NumberedLine {
         number,
         line: line_of(text),
     }

@@ -135,7 +135,7 @@ struct Outcome<'a> {
     name: &'a [u8],
     passed: bool,
     line: usize,
-    told: &'a [u8],
+    report: &'a [u8],
 }
 
 impl<'a> Outcome<'a> {
@@ -145,10 +145,14 @@ impl<'a> Outcome<'a> {
             name,
             passed: matches!(verdict, Verdict::Passed),
             line: line_of(verdict),
-            told: told_of(verdict),
+            report: report_of(verdict),
         }
     }
 }
+
+/// The report on a case whose routine cannot be called.
+pub const NOT_CALLED: &[u8] =
+    b"cannot call its routine; the source must define the names in the `call` line";
 
 // Returns the line of the WANT file that a verdict names, or 0.
 fn line_of<A: Allocator>(verdict: &Verdict<A>) -> usize {
@@ -159,11 +163,11 @@ fn line_of<A: Allocator>(verdict: &Verdict<A>) -> usize {
 }
 
 // Returns the report of a verdict.
-fn told_of<A: Allocator>(verdict: &Verdict<A>) -> &[u8] {
+fn report_of<A: Allocator>(verdict: &Verdict<A>) -> &[u8] {
     match verdict {
         Verdict::Passed => b"",
-        Verdict::Missed(_, told) => told.as_slice(),
-        Verdict::NotCalled => b"its routine can't be called here",
+        Verdict::Missed(_, report) => report.as_slice(),
+        Verdict::NotCalled => NOT_CALLED,
     }
 }
 
@@ -223,7 +227,7 @@ fn put_reason<'a, W: Output>(
             format,
             &[
                 Piece::Plain(front),
-                Piece::Plain(b"refused: "),
+                Piece::Plain(b"error: "),
                 Piece::Text(why),
             ],
             writer,
@@ -255,7 +259,7 @@ fn put_failed<'a, W: Output>(
     }
     put_pieces(
         format,
-        &[Piece::Plain(b": "), Piece::Text(outcome.told)],
+        &[Piece::Plain(b": "), Piece::Text(outcome.report)],
         writer,
     )
 }
@@ -272,7 +276,7 @@ fn passed_in<A: Allocator>(found: &Found<A>) -> usize {
 const BLANKS: &[u8] = b"                        ";
 
 // Returns the blanks that align the number after a name.
-fn blanks_behind(name: &[u8]) -> &[u8] {
+fn padding_after(name: &[u8]) -> &[u8] {
     let (_, blanks) = BLANKS.split_at(name.len().min(BLANKS.len()));
     blanks
 }
@@ -288,7 +292,7 @@ fn put_row<'a, W: Output>(
         Format::Table,
         &[
             Piece::Text(name),
-            Piece::Plain(blanks_behind(name)),
+            Piece::Plain(padding_after(name)),
             Piece::Plain(b" "),
             Piece::Number(passed),
             Piece::Plain(b"/"),
@@ -338,7 +342,7 @@ fn put_difference<W: Output>(outcome: Outcome<'_>, writer: &mut W) -> Result<(),
         Format::Json,
         &[
             Piece::Plain(b",\"difference\":\""),
-            Piece::Text(outcome.told),
+            Piece::Text(outcome.report),
             Piece::Plain(b"\"}"),
         ],
         writer,
@@ -408,7 +412,7 @@ fn put_json<'a, A: Allocator, W: Output>(
         Found::Refused(why) => put_pieces(
             Format::Json,
             &[
-                Piece::Plain(b"\",\"refused\":\""),
+                Piece::Plain(b"\",\"error\":\""),
                 Piece::Text(*why),
                 Piece::Plain(b"\"}"),
             ],
@@ -452,7 +456,7 @@ fn put_test<W: Output>(outcome: Outcome<'_>, writer: &mut W) -> Result<(), Write
             writer,
         )
     } else {
-        put_failure(outcome.name, b"failure", outcome.told, writer)
+        put_failure(outcome.name, b"failure", outcome.report, writer)
     }
 }
 
@@ -563,11 +567,11 @@ fn put_totals<W: Output>(totals: &Totals, writer: &mut W) -> Result<(), WriteFau
             files.as_slice(),
             b" files: ",
             passed.as_slice(),
-            b" pass, ",
+            b" passed, ",
             failed.as_slice(),
-            b" fail, ",
+            b" failed, ",
             refused.as_slice(),
-            b" refused\n",
+            b" with errors\n",
         ],
         writer,
     )

@@ -5,7 +5,7 @@ ghost use Rattle.std.specs.List.{list_all};
 ghost use Rattle.a2_text.specs.Bytes.{is_blank as is_blank_byte};
 ghost use Rattle.a2_tests.specs.Rows as row;
 
-use crate::line::{Asked, Line, behind};
+use crate::line::{Line, NumberedLine, following};
 use a2_text::is_blank;
 
 // Returns whether a text consists only of blanks.
@@ -23,9 +23,9 @@ fn is_same(wanted: &[u8], shown: &[u8]) -> bool
         [] => is_empty_row(shown),
         [c, more @ ..] => match shown {
             [] => is_empty_row(wanted),
-            [d, behind @ ..] => {
+            [d, following @ ..] => {
                 if *c == *d {
-                    is_same(more, behind)
+                    is_same(more, following)
                 } else {
                     is_empty_row(wanted) && is_empty_row(shown)
                 }
@@ -42,7 +42,7 @@ pub(crate) fn row_fits(wanted: &[u8], shown: &[u8]) -> bool
 }
 
 /// Returns the row that some lines begin with, or an empty row if they do not begin with one.
-pub(crate) fn first_row<'a>(lines: &[Asked<'a>]) -> &'a [u8]
+pub(crate) fn first_row<'a>(lines: &[NumberedLine<'a>]) -> &'a [u8]
     ensures { result.now ≡ row.first_row lines.now }
 {
     match lines {
@@ -55,7 +55,7 @@ pub(crate) fn first_row<'a>(lines: &[Asked<'a>]) -> &'a [u8]
 }
 
 /// Returns whether some lines begin with a row.
-fn begins_with_row(lines: &[Asked]) -> bool
+fn begins_with_row(lines: &[NumberedLine]) -> bool
     ensures { result ≡ row.begins_with_row lines.now }
 {
     match lines {
@@ -65,25 +65,25 @@ fn begins_with_row(lines: &[Asked]) -> bool
 }
 
 /// Returns 1 if some lines begin with a row, otherwise 0.
-pub(crate) fn row_count(lines: &[Asked]) -> usize
+pub(crate) fn row_count(lines: &[NumberedLine]) -> usize
     ensures { result ≡ row.row_count lines.now }
 {
     if begins_with_row(lines) { 1 } else { 0 }
 }
 
 /// Returns whether the rows of a screen, from the top, are those on the lines, and the remaining rows are blank.
-pub(crate) fn rows_fit(lines: &[Asked], shown: &[&[u8]]) -> bool
+pub(crate) fn rows_fit(lines: &[NumberedLine], shown: &[&[u8]]) -> bool
     ensures { result ≡ row.rows_fit lines.now (map (λ x. x.now) shown.now) }
 {
     let mut used = 0;
     for text in shown {
-        let here = behind(lines, used);
+        let here = following(lines, used);
         if !row_fits(first_row(here), text) {
             return false;
         }
         used += row_count(here);
     }
-    !begins_with_row(behind(lines, used))
+    !begins_with_row(following(lines, used))
 }
 
 /// Returns whether the row with this number, from 0 at the top, is the expected one.

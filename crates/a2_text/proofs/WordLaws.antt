@@ -7,7 +7,7 @@ use Rattle.std.proofs.lemmas.List.Splits.{slice_split_first, slice_split_none, s
 use Rattle.std.proofs.lemmas.List.Sums.{prefix_len-le-length, prefix_len_passes, passes_at_first}
 use Rattle.std.proofs.lemmas.List.Elements.{All-from_get_or}
 use Rattle.a2_text.specs.Bytes.{is_blank}
-use Rattle.a2_text.specs.Words.{behind_blanks, words}
+use Rattle.a2_text.specs.Words.{after_blanks, words}
 
 abbrev is_some_piece : List ℕ → Bool
 is_some_piece piece = ltb 0 (length piece)
@@ -16,31 +16,31 @@ is_some_piece piece = ltb 0 (length piece)
 pub words-blank : (c : ℕ) (text : List ℕ) → is_blank c ≡ true → words (c ∷ text) ≡ words text
 words-blank c text h = ap (filter is_some_piece) (slice_split-cons_yes is_blank c text h)
 
-behind_blanks-blank : (c : ℕ) (text : List ℕ) → is_blank c ≡ true → behind_blanks (c ∷ text) ≡ behind_blanks text
-behind_blanks-blank c text h =
+after_blanks-blank : (c : ℕ) (text : List ℕ) → is_blank c ≡ true → after_blanks (c ∷ text) ≡ after_blanks text
+after_blanks-blank c text h =
     let more : 1 + prefix_len is_blank text ≡ suc (prefix_len is_blank text) = omega arith in
     ap (λ (n : ℕ). drop n (c ∷ text)) (cond-true (is_blank c) (1 + prefix_len is_blank text) 0 h ∙ more)
 
-behind_blanks-word : (c : ℕ) (text : List ℕ) → is_blank c ≡ false → behind_blanks (c ∷ text) ≡ c ∷ text
-behind_blanks-word c text h = rw (cond-false (is_blank c) (1 + prefix_len is_blank text) 0 h) refl
+after_blanks-word : (c : ℕ) (text : List ℕ) → is_blank c ≡ false → after_blanks (c ∷ text) ≡ c ∷ text
+after_blanks-word c text h = rw (cond-false (is_blank c) (1 + prefix_len is_blank text) 0 h) refl
 
-words-behind : (text : List ℕ) → words text ≡ words (behind_blanks text)
-words-behind [] = refl
-words-behind (c ∷ text) = elim (cases_Bool (is_blank c)) [
-  | inl h ↦ words-blank c text h ∙ words-behind text ∙ ap words (sym (behind_blanks-blank c text h))
-  | inr h ↦ ap words (sym (behind_blanks-word c text h))
+words-following : (text : List ℕ) → words text ≡ words (after_blanks text)
+words-following [] = refl
+words-following (c ∷ text) = elim (cases_Bool (is_blank c)) [
+  | inl h ↦ words-blank c text h ∙ words-following text ∙ ap words (sym (after_blanks-blank c text h))
+  | inr h ↦ ap words (sym (after_blanks-word c text h))
 ]
 
-pub words-none : (text here : List ℕ) → here ≡ behind_blanks text → length here ≡ 0 → words text ≡ []
-words-none text [] e h = words-behind text ∙ ap words (sym e)
+pub words-none : (text here : List ℕ) → here ≡ after_blanks text → length here ≡ 0 → words text ≡ []
+words-none text [] e h = words-following text ∙ ap words (sym e)
 words-none text (c ∷ here) e h = absurd (omega arith)
 
 -- the text after the blanks does not begin with a blank
-behind-stops : (text : List ℕ) → 0 < length (behind_blanks text) → is_blank (get_or (behind_blanks text) 0 0) ≡ false
-behind-stops [] h = absurd (omega arith)
-behind-stops (c ∷ text) h = elim (cases_Bool (is_blank c)) [
-  | inl b ↦ (let e = behind_blanks-blank c text b in rw e (behind-stops text (rw e at h)))
-  | inr b ↦ rw (behind_blanks-word c text b) b
+following-stops : (text : List ℕ) → 0 < length (after_blanks text) → is_blank (get_or (after_blanks text) 0 0) ≡ false
+following-stops [] h = absurd (omega arith)
+following-stops (c ∷ text) h = elim (cases_Bool (is_blank c)) [
+  | inl b ↦ (let e = after_blanks-blank c text b in rw e (following-stops text (rw e at h)))
+  | inr b ↦ rw (after_blanks-word c text b) b
 ]
 
 word-some : (here : List ℕ) → 0 < length here → is_blank (get_or here 0 0) ≡ false → 0 < position_or_len is_blank here
@@ -64,18 +64,18 @@ words-last here n e some ge =
     rw (take_all n here ge, drop_all n here ge)
     (ap (filter is_some_piece) none ∙ filter-kept here [] (omega (arith, e, prefix_len-le-length (λ (x : ℕ). not (is_blank x)) here)))
 
-pub words-first : (text here : List ℕ) (n : ℕ) → here ≡ behind_blanks text → 0 < length here → n ≡ position_or_len is_blank here → words text ≡ take n here ∷ words (drop n here)
+pub words-first : (text here : List ℕ) (n : ℕ) → here ≡ after_blanks text → 0 < length here → n ≡ position_or_len is_blank here → words text ≡ take n here ∷ words (drop n here)
 words-first text here n e some is =
-    let stops : is_blank (get_or here 0 0) ≡ false = rw e (behind-stops text (rw e at some)) in
+    let stops : is_blank (get_or here 0 0) ≡ false = rw e (following-stops text (rw e at some)) in
     let first : 0 < n = rw is (word-some here some stops) in
-    let same : words text ≡ words here = words-behind text ∙ ap words (sym e) in
+    let same : words text ≡ words here = words-following text ∙ ap words (sym e) in
     elim (cases_lt n (length here)) [
       | inl lt ↦ same ∙ words-cut here n is first lt
       | inr ge ↦ same ∙ words-last here n is first ge
     ]
 
 -- the text after the first word is shorter
-pub behind-shorter : (text here : List ℕ) (n : ℕ) → here ≡ behind_blanks text → 0 < length here → n ≡ position_or_len is_blank here → (0 < n) × (length here ≤ length text)
-behind-shorter text here n e some is =
-    let stops : is_blank (get_or here 0 0) ≡ false = rw e (behind-stops text (rw e at some)) in
+pub following-shorter : (text here : List ℕ) (n : ℕ) → here ≡ after_blanks text → 0 < length here → n ≡ position_or_len is_blank here → (0 < n) × (length here ≤ length text)
+following-shorter text here n e some is =
+    let stops : is_blank (get_or here 0 0) ≡ false = rw e (following-stops text (rw e at some)) in
     (rw is (word-some here some stops), rw e (omega (arith, length-drop (prefix_len is_blank text) text)))

@@ -1,6 +1,6 @@
 pub mod Bytes
 pub mod Lines
-pub mod Refusals
+pub mod FirstError
 pub mod Digits
 pub mod Json
 pub mod Words

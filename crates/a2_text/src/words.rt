@@ -22,8 +22,8 @@ pub fn front_len<P: Fn(u8) -> bool>(text: &[u8], test: P) -> usize
 }
 
 /// Returns the text after the blanks at its front.
-pub fn behind_blanks(text: &[u8]) -> &[u8]
-    ensures { result.now ≡ word.behind_blanks text.now }
+pub fn after_blanks(text: &[u8]) -> &[u8]
+    ensures { result.now ≡ word.after_blanks text.now }
 {
     &text[front_len(text, |c| is_blank(c))..]
 }
@@ -31,10 +31,10 @@ pub fn behind_blanks(text: &[u8]) -> &[u8]
 /// Returns the first word of a text and the text after it, or `None` if the text is blank.
 pub fn first_word(text: &[u8]) -> Option<(&[u8], &[u8])>
     ensures words { MatchOption result (word.words text.now ≡ [])
-        (λ (first, behind). word.words text.now ≡ first.now ∷ word.words behind.now) }
-    ensures shorter { IfSome result (λ (_, behind). length behind.now < length text.now) }
+        (λ (first, following). word.words text.now ≡ first.now ∷ word.words following.now) }
+    ensures shorter { IfSome result (λ (_, following). length following.now < length text.now) }
 {
-    let here = behind_blanks(text);
+    let here = after_blanks(text);
     if here.is_empty() {
         return None;
     }
@@ -42,12 +42,12 @@ pub fn first_word(text: &[u8]) -> Option<(&[u8], &[u8])>
 }
 
 /// Returns the first word of a text and the text after it; both are empty if the text is blank.
-#[tactic(auto, unfolding(crate::specs::Words::first_word, crate::specs::Words::behind_word))]
+#[tactic(auto, unfolding(crate::specs::Words::first_word, crate::specs::Words::after_first_word))]
 pub fn split_word(text: &[u8]) -> (&[u8], &[u8])
     ensures word { result.0.now ≡ word.first_word text.now }
-    ensures behind { result.1.now ≡ word.behind_word text.now }
+    ensures following { result.1.now ≡ word.after_first_word text.now }
 {
-    let here = behind_blanks(text);
+    let here = after_blanks(text);
     here.split_at(front_len(here, |c| !is_blank(c)))
 }
 
@@ -55,6 +55,6 @@ pub fn split_word(text: &[u8]) -> (&[u8], &[u8])
 pub fn only_word(text: &[u8]) -> Option<&[u8]>
     ensures { MatchOption result (word.only_word (word.words text.now) ≡ None) (λ w. word.only_word (word.words text.now) ≡ Some w.now) }
 {
-    let (word, behind) = first_word(text)?;
-    first_word(behind).is_none().then_some(word)
+    let (word, following) = first_word(text)?;
+    first_word(following).is_none().then_some(word)
 }

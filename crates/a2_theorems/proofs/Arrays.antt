@@ -14,7 +14,7 @@ use Rattle.a2_machine.specs.Meaning.{Code}
 use Rattle.a2_machine.proofs.Walks.{walked, Leads}
 use Rattle.a2_theorems.proofs.Keeping.{outside, stored}
 use Rattle.a2_theorems.proofs.Places.{stepping}
-use Rattle.a2_theorems.proofs.Stepping.{Stands}
+use Rattle.a2_theorems.proofs.Stepping.{IsAtPc}
 use Rattle.a2_theorems.proofs.Indexing.{store, stored_at}
 
 -- this many cells, starting at an address
@@ -29,7 +29,7 @@ is_below base count a low = grind (arith, nat_tests, low)
 
 -- a part, then STA (zp),Y into the i-th cell, above the text pages with all code below the cells, and what follows
 pub storing : (code : Code) (w v u : World) (m n : ℕ) (P Q : World → Type 0) (pointer base i : ℕ) → walked code w m ≡ Some v
-    → Stands code v (record { row = fixed Sta IndirectIndexed 0x91 6; value = pointer })
+    → IsAtPc code v (record { row = fixed Sta IndirectIndexed 0x91 6; value = pointer })
     → zero_page_word memory_access v.memory pointer ≡ base → v.registers.y ≡ i → 0xC00 ≤ base → base + i < ram_end
     → list_all (λ n. nat_lt n 0xC00) code.protected ≡ true → walked code (stored_at 2 6 (base + i) v) n ≡ Some u → P u → Q u
     → Leads code w (m + (1 + n)) (λ x. P x × Q x)

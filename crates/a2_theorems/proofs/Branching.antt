@@ -14,7 +14,7 @@ use Rattle.a2_services.specs.World.{World}
 use Rattle.a2_machine.specs.Meaning.{Code}
 use Rattle.a2_machine.proofs.Walks.{walked, Leads}
 use Rattle.a2_theorems.proofs.Places.{along}
-use Rattle.a2_theorems.proofs.Stepping.{Stands, step}
+use Rattle.a2_theorems.proofs.Stepping.{IsAtPc, step}
 
 -- the flags that branches test
 pub data Flag : Type 0 where
@@ -95,15 +95,15 @@ branched false to w = record w { registers = record w.registers { pc = (w.regist
 
 -- the step of each branch, taken and not taken
 pub branch : (code : Code) (w : World) (m : Mnemonic) (opcode : ℕ) (flag : Flag) (value is : Bool) (to : ℕ) → Branches m opcode flag value
-    → Stands code w (record { row = branch_row m opcode; value = to }) → flag_of flag w ≡ is
+    → IsAtPc code w (record { row = branch_row m opcode; value = to }) → flag_of flag w ≡ is
     → walked code w 1 ≡ Some (branched (is_taken value is) to w)
 unfolding refusal_of effect_of performed after_effect stores_of
 branch code w m opcode flag value is to one stands known =
     subst (λ v. walked code v 1 ≡ Some (branched (is_taken value is) to v)) (same_flag flag is w known)
-    (each one is (subst (λ v. Stands code v (record { row = branch_row m opcode; value = to })) (sym (same_flag flag is w known)) stands))
+    (each one is (subst (λ v. IsAtPc code v (record { row = branch_row m opcode; value = to })) (sym (same_flag flag is w known)) stands))
   where
     each : {m : Mnemonic} {opcode : ℕ} {flag : Flag} {value : Bool} → Branches m opcode flag value → (is : Bool)
-        → Stands code (with_flag flag is w) (record { row = branch_row m opcode; value = to })
+        → IsAtPc code (with_flag flag is w) (record { row = branch_row m opcode; value = to })
         → walked code (with_flag flag is w) 1 ≡ Some (branched (is_taken value is) to (with_flag flag is w))
     each bpl true stands = step code _ _ stands refl refl
     each bpl false stands = step code _ _ stands refl refl

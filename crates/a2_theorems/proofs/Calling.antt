@@ -38,10 +38,10 @@ calls code to s steps Before After does w entered next m n all Q are walk at hom
     subst (λ k. Leads code w k Q) are
     (along code w entered m (steps + n) Q walk
     (and_then code entered steps n (λ v. Back s entered v × After entered v) Q
-    (from code to s entered.registers.flags.z entered steps _ at (does entered entered.registers.flags.z before)) (λ v h. behind v h)))
+    (from code to s entered.registers.flags.z entered steps _ at (does entered entered.registers.flags.z before)) (λ v h. following v h)))
   where
-    behind : (v : World) → Back s entered v × After entered v → Leads code v n Q
-    behind v ((pc, is_s, d), after) =
+    following : (v : World) → Back s entered v × After entered v → Leads code v n Q
+    following v ((pc, is_s, d), after) =
         from code next (s + 2) v.registers.flags.z v n Q (pc ∙ home, is_s, d, refl) (later v v.registers.flags.z after)
 
 -- what is unchanged after a call, given the stores before it, those of its JSR, and those of the subroutine

@@ -11,7 +11,7 @@ use Rattle.a2_theorems.proofs.Returning.{does, finishes, home_on}
 use Rattle.a2_theorems.proofs.Keeping.{keeps_stores, keeps_same, keeps_all, keeps_word}
 use Rattle.a2_theorems.proofs.Arrays.{cells, is_cell, is_below, Have, storing, stored_below}
 use Rattle.a2_theorems.proofs.Places.{put}
-use Rattle.a2_theorems.proofs.Counting.{Comes, counting}
+use Rattle.a2_theorems.proofs.Counting.{ReachesTop, counting}
 
 abbrev code : Code
 code = routine 0x300 filling
@@ -39,7 +39,7 @@ below memory low a small = is_below (base memory) (count memory) a (omega (arith
 round : (memory : Memory) → 0xC00 ≤ base memory → base memory + count memory ≤ ram_end → (k : ℕ) (w : World) → k < count memory
     → (w.registers.y + 255) % 256 ≡ k → Left memory (suc k) w
     → Leads code (put 0x304 0xFD false w) 4
-    (λ v. Comes 0x304 0xFD left_count ((w.registers.y + 255) % 256) (w.cycles + 13) v × Left memory k v)
+    (λ v. ReachesTop 0x304 0xFD left_count ((w.registers.y + 255) % 256) (w.cycles + 13) v × Left memory k v)
 unfolding computing
 round memory low high k w some index left =
     storing code (put 0x304 0xFD false w) _ _ 2 1 _ _ 0x06 (base memory) k refl

@@ -1,7 +1,7 @@
 use Rattle.std.specs.Prelude.{◌≡◌, Some, false, refl}
 use Rattle.a2_machine.proofs.Computing.{computing}
 use Rattle.a2_theorems.specs.Greeting.{greeting, greeting_output, GreetingGreets}
-use Rattle.a2_theorems.proofs.Texts.{entry_of, prints}
+use Rattle.a2_theorems.proofs.TextRunProofs.{entry_of, prints}
 use Rattle.a2_theorems.proofs.Reading.{reading, starting, printing}
 
 read : entry_of greeting ≡ Some 0x300

@@ -8,7 +8,7 @@ use Rattle.std.proofs.lemmas.Bool.Decides.{nat_tests}
 use Rattle.a2_text.specs.Bytes.{is_among}
 use Rattle.a2_opcode.specs.declared.Mnemonic.TheVariants.{Lda, Sta}
 use Rattle.a2_opcode.specs.declared.Mode.TheVariants.{AbsoluteX, AbsoluteY, IndirectIndexed}
-use Rattle.a2_opcode.specs.Table.{fixed, paged}
+use Rattle.a2_opcode.specs.Table.{fixed, page_crossing_row}
 use Rattle.a2_bus.specs.Devices.{device_byte, after_access}
 use Rattle.a2_bus.specs.Memory.{ram_byte, with_ram, ram_end, memory_access}
 use Rattle.a2_cpu.specs.BusStep.{refusal_of}
@@ -20,10 +20,10 @@ use Rattle.a2_cpu.specs.Stores.{stores_of}
 use Rattle.a2_services.specs.World.{World}
 use Rattle.a2_machine.specs.Meaning.{Code, Decoded}
 use Rattle.a2_machine.proofs.Walks.{walked}
-use Rattle.a2_theorems.proofs.Stepping.{Stands, step}
+use Rattle.a2_theorems.proofs.Stepping.{IsAtPc, step}
 
 -- An instruction that stores a byte at one address, given how the address is computed
-pub stores_at : (code : Code) (w : World) (decoded : Decoded) (registers : Registers) (cycles byte e at : ℕ) → Stands code w decoded
+pub stores_at : (code : Code) (w : World) (decoded : Decoded) (registers : Registers) (cycles byte e at : ℕ) → IsAtPc code w decoded
     → refusal_of decoded.row.mnemonic w.registers.flags ≡ None → stores_of memory_access decoded.row decoded.value w ≡ e ∷ []
     → performed memory_access decoded.row decoded.value w
     ≡ record { registers = registers; memory = memory_access.after_write w.memory e byte; cycles = cycles }
@@ -43,7 +43,7 @@ stores_at code w decoded registers cycles byte e at stands allowed stored comput
     }
 
 -- an instruction that reads a byte at one address, and stores nothing
-pub reads_at : (code : Code) (w : World) (decoded : Decoded) (registers : ℕ → Registers) (cycles : ℕ → ℕ) (e at : ℕ) → Stands code w decoded
+pub reads_at : (code : Code) (w : World) (decoded : Decoded) (registers : ℕ → Registers) (cycles : ℕ → ℕ) (e at : ℕ) → IsAtPc code w decoded
     → refusal_of decoded.row.mnemonic w.registers.flags ≡ None → stores_of memory_access decoded.row decoded.value w ≡ []
     → performed memory_access decoded.row decoded.value w
     ≡ record { registers = registers (memory_access.byte_at w.memory e); memory = memory_access.after_read w.memory e; cycles = cycles e }
@@ -62,62 +62,62 @@ reads_at code w decoded registers cycles e at stands allowed stored computed is 
     }
 
 -- the registers after an instruction of this many bytes
-abbrev pub behind : ℕ → World → Registers
-behind length w = record w.registers { pc = (w.registers.pc + length) % 65536 }
+abbrev pub following : ℕ → World → Registers
+following length w = record w.registers { pc = (w.registers.pc + length) % 65536 }
 
 -- the world after an indexed STA
 abbrev pub stored_at : (length cycles at : ℕ) → World → World
 stored_at length cycles at w =
-    record { registers = behind length w; memory = with_ram w.memory at w.registers.a; cycles = w.cycles + cycles }
+    record { registers = following length w; memory = with_ram w.memory at w.registers.a; cycles = w.cycles + cycles }
 
 -- the world after an indexed LDA, which takes one more cycle if the address is in another page than this base
 abbrev pub loaded_at : (length cycles base at : ℕ) → World → World
 loaded_at length cycles base at w = record {
-  registers = to_a (ram_byte w.memory at) (behind length w);
+  registers = to_a (ram_byte w.memory at) (following length w);
   memory = w.memory;
   cycles = w.cycles + (cycles + one_if (is_other_page base at) + 0);
 }
 
 -- STA (zp),Y
-pub store : (code : Code) (w : World) (pointer at : ℕ) → Stands code w (record { row = fixed Sta IndirectIndexed 0x91 6; value = pointer })
+pub store : (code : Code) (w : World) (pointer at : ℕ) → IsAtPc code w (record { row = fixed Sta IndirectIndexed 0x91 6; value = pointer })
     → (zero_page_word memory_access w.memory pointer + w.registers.y) % 65536 ≡ at → at < ram_end → is_among code.protected at ≡ false
     → walked code w 1 ≡ Some (stored_at 2 6 at w)
 unfolding performed after_effect effect_of refusal_of stores_of
 store code w pointer at stands is low free = stores_at code w _ _ _ _ _ at stands refl refl refl is low free
 
 -- STA ABS,X and STA ABS,Y
-pub store_x : (code : Code) (w : World) (base at : ℕ) → Stands code w (record { row = fixed Sta AbsoluteX 0x9D 5; value = base })
+pub store_x : (code : Code) (w : World) (base at : ℕ) → IsAtPc code w (record { row = fixed Sta AbsoluteX 0x9D 5; value = base })
     → (base + w.registers.x) % 65536 ≡ at → at < ram_end → is_among code.protected at ≡ false → walked code w 1 ≡ Some (stored_at 3 5 at w)
 unfolding performed after_effect effect_of refusal_of stores_of
 store_x code w base at stands is low free = stores_at code w _ _ _ _ _ at stands refl refl refl is low free
 
-pub store_y : (code : Code) (w : World) (base at : ℕ) → Stands code w (record { row = fixed Sta AbsoluteY 0x99 5; value = base })
+pub store_y : (code : Code) (w : World) (base at : ℕ) → IsAtPc code w (record { row = fixed Sta AbsoluteY 0x99 5; value = base })
     → (base + w.registers.y) % 65536 ≡ at → at < ram_end → is_among code.protected at ≡ false → walked code w 1 ≡ Some (stored_at 3 5 at w)
 unfolding performed after_effect effect_of refusal_of stores_of
 store_y code w base at stands is low free = stores_at code w _ _ _ _ _ at stands refl refl refl is low free
 
 -- LDA (zp),Y
-pub load : (code : Code) (w : World) (pointer at : ℕ) → Stands code w (record { row = paged Lda IndirectIndexed 0xB1 5; value = pointer })
+pub load : (code : Code) (w : World) (pointer at : ℕ) → IsAtPc code w (record { row = page_crossing_row Lda IndirectIndexed 0xB1 5; value = pointer })
     → (zero_page_word memory_access w.memory pointer + w.registers.y) % 65536 ≡ at → at < ram_end
     → walked code w 1 ≡ Some (loaded_at 2 5 (zero_page_word memory_access w.memory pointer) at w)
 unfolding performed after_effect effect_of refusal_of stores_of
 load code w pointer at stands is low =
-    reads_at code w _ (λ byte. to_a byte (behind 2 w))
+    reads_at code w _ (λ byte. to_a byte (following 2 w))
     (λ a. w.cycles + (5 + one_if (is_other_page (zero_page_word memory_access w.memory pointer) a) + 0)) _ at stands refl refl refl is low
 
 -- LDA ABS,X and LDA ABS,Y
-pub load_x : (code : Code) (w : World) (base at : ℕ) → Stands code w (record { row = paged Lda AbsoluteX 0xBD 4; value = base })
+pub load_x : (code : Code) (w : World) (base at : ℕ) → IsAtPc code w (record { row = page_crossing_row Lda AbsoluteX 0xBD 4; value = base })
     → (base + w.registers.x) % 65536 ≡ at → at < ram_end → walked code w 1 ≡ Some (loaded_at 3 4 base at w)
 unfolding performed after_effect effect_of refusal_of stores_of
 load_x code w base at stands is low =
-    reads_at code w _ (λ byte. to_a byte (behind 3 w)) (λ a. w.cycles + (4 + one_if (is_other_page base a) + 0)) _ at
+    reads_at code w _ (λ byte. to_a byte (following 3 w)) (λ a. w.cycles + (4 + one_if (is_other_page base a) + 0)) _ at
     stands refl refl refl is low
 
-pub load_y : (code : Code) (w : World) (base at : ℕ) → Stands code w (record { row = paged Lda AbsoluteY 0xB9 4; value = base })
+pub load_y : (code : Code) (w : World) (base at : ℕ) → IsAtPc code w (record { row = page_crossing_row Lda AbsoluteY 0xB9 4; value = base })
     → (base + w.registers.y) % 65536 ≡ at → at < ram_end → walked code w 1 ≡ Some (loaded_at 3 4 base at w)
 unfolding performed after_effect effect_of refusal_of stores_of
 load_y code w base at stands is low =
-    reads_at code w _ (λ byte. to_a byte (behind 3 w)) (λ a. w.cycles + (4 + one_if (is_other_page base a) + 0)) _ at
+    reads_at code w _ (λ byte. to_a byte (following 3 w)) (λ a. w.cycles + (4 + one_if (is_other_page base a) + 0)) _ at
     stands refl refl refl is low
 
 -- how many of the first n bytes that start at an address are in another page than that address

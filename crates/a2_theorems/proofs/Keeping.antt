@@ -8,7 +8,7 @@ use Rattle.a2_page.specs.declared.Page.{Page}
 use Rattle.a2_page.specs.declared.Page.TheVariants.{One, Two}
 use Rattle.a2_page.specs.Cells.{Cell, cell_at, address_of}
 use Rattle.a2_page.specs.Grid.{Grid, byte_in, with_byte}
-use Rattle.a2_page.proofs.Finding.{StandsAt, cell_at-stands}
+use Rattle.a2_page.proofs.Finding.{IsCellAtAddress, cell_at-stands}
 use Rattle.a2_bus.specs.Memory.{Memory, grid, with_grid, ram_byte, with_ram}
 use Rattle.a2_bus.proofs.Frame.{ram_byte-with_ram}
 use Rattle.a2_services.specs.World.{World}
@@ -54,7 +54,7 @@ no_cell a high = go (cell_at a) refl
     go : (found : Option Cell) → cell_at a ≡ found → found ≡ None
     go None is = refl
     go (Some cell) is =
-        let stands : StandsAt a cell = cell_at-stands a cell is in
+        let stands : IsCellAtAddress a cell = cell_at-stands a cell is in
         absurd (at_page cell.page cell.row cell.column stands.row_ok stands.column_ok stands.address_is)
 
 -- a byte that is stored there is read back

@@ -9,7 +9,7 @@ pub mod Calling
 pub mod Indexing
 pub mod Arrays
 pub mod Scanning
-pub mod Texts
+pub mod TextRunProofs
 pub mod Reading
 pub mod Swapping
 pub mod AddingWords

@@ -13,7 +13,7 @@ use Rattle.a2_theorems.proofs.Returning.{does, finishes, home_on}
 use Rattle.a2_theorems.proofs.Keeping.{kept, keeps_stores, keeps_same}
 use Rattle.a2_theorems.proofs.Carrying.{byte_added, fits_word}
 use Rattle.a2_theorems.proofs.Places.{ends, put}
-use Rattle.a2_theorems.proofs.Counting.{Comes, counting}
+use Rattle.a2_theorems.proofs.Counting.{ReachesTop, counting}
 
 abbrev code : Code
 code = routine 0x300 product
@@ -48,7 +48,7 @@ added memory bytes k w left m is =
     more = ap (λ n. k * y + n) is ∙ (let e : k * y + y ≡ suc k * y = grind arith in e)
 
 round : (memory : Memory) → HasBytes memory → (k : ℕ) (w : World) → Left memory (suc k) w → Leads code (put 0x308 0xFD false w) 10
-    (λ v. Comes 0x308 0xFD count ((w.registers.x + 255) % 256) (w.cycles + 26) v × Left memory k v)
+    (λ v. ReachesTop 0x308 0xFD count ((w.registers.x + 255) % 256) (w.cycles + 26) v × Left memory k v)
 unfolding computing
 round memory bytes k w left =
     ends code (put 0x308 0xFD false w) _ 10 _ _ refl ((refl, refl, refl, refl), refl, cycles w.cycles) (record {

@@ -3,7 +3,7 @@ use Rattle.std.specs.Prelude.{◌≡◌, ◌≢◌, ◌<◌, ℕ, suc, ◌+◌, 
 use Rattle.std.proofs.Common.{sym, ap, ◌∙◌, arith}
 use Rattle.a2_opcode.specs.declared.Mnemonic.TheVariants.{Lda}
 use Rattle.a2_opcode.specs.declared.Mode.TheVariants.{IndirectIndexed}
-use Rattle.a2_opcode.specs.Table.{paged}
+use Rattle.a2_opcode.specs.Table.{page_crossing_row}
 use Rattle.a2_bus.specs.Memory.{Memory, ram_byte, ram_end, memory_access}
 use Rattle.a2_effect.specs.Place.{zero_page_word, is_other_page}
 use Rattle.a2_effect.specs.Registers.{one_if}
@@ -11,7 +11,7 @@ use Rattle.a2_services.specs.World.{World}
 use Rattle.a2_machine.specs.Meaning.{Code}
 use Rattle.a2_machine.proofs.Walks.{Leads}
 use Rattle.a2_theorems.proofs.Places.{At, put, from, in_memory, so, counted}
-use Rattle.a2_theorems.proofs.Stepping.{Stands}
+use Rattle.a2_theorems.proofs.Stepping.{IsAtPc}
 use Rattle.a2_theorems.proofs.Counting.{not_zero}
 use Rattle.a2_theorems.proofs.Indexing.{load, loaded_at, crossed, crosses}
 use Rattle.a2_theorems.proofs.Branching.{Z, with_flag, onward}
@@ -35,11 +35,11 @@ pub record IsText (memory : Memory) (base n : ℕ) : Type 0 where
 -- number of cycles before the loop, and `more` that of a round without LDA.
 module _ (code : Code) (pc s pointer base : ℕ) (memory : Memory) (Left : ℕ → World → Type 0) (n begun more : ℕ)
     (text : IsText memory base n) (points : zero_page_word memory_access memory pointer ≡ base)
-    (stands : (z : Bool) (w : World) → Stands code (at_top pc s memory z w)
-    (record { row = paged Lda IndirectIndexed 0xB1 5; value = pointer })) where
+    (stands : (z : Bool) (w : World) → IsAtPc code (at_top pc s memory z w)
+    (record { row = page_crossing_row Lda IndirectIndexed 0xB1 5; value = pointer })) where
   -- back at the top, with this Y
-  abbrev pub Comes : (y cycles : ℕ) → World → Type 0
-  Comes y cycles w = At pc s w.registers.flags.z w × (w.registers.y ≡ y) × (w.cycles ≡ cycles) × (w.memory ≡ memory)
+  abbrev pub ReachesTop : (y cycles : ℕ) → World → Type 0
+  ReachesTop y cycles w = At pc s w.registers.flags.z w × (w.registers.y ≡ y) × (w.cycles ≡ cycles) × (w.memory ≡ memory)
 
   record Round (k : ℕ) (w : World) : Type 0 where
     at : At pc s w.registers.flags.z w
@@ -80,10 +80,10 @@ module _ (code : Code) (pc s pointer base : ℕ) (memory : Memory) (Left : ℕ �
       summed p q r all every one old = omega (arith, one, old)
 
   pub scanning : (Q : World → Type 0) (begin round end steps : ℕ) (w : World) → begin + (n * (1 + round) + (1 + end)) ≡ steps
-      → Leads code w begin (λ v. Comes 0 begun v × Left n v)
+      → Leads code w begin (λ v. ReachesTop 0 begun v × Left n v)
       → ((k : ℕ) (v : World) → v.registers.y + suc k ≡ n → Left (suc k) v
       → Leads code (read pc s memory base false v) round
-      (λ u. Comes ((v.registers.y + 1) % 256) ((read pc s memory base false v).cycles + more) u × Left k u))
+      (λ u. ReachesTop ((v.registers.y + 1) % 256) ((read pc s memory base false v).cycles + more) u × Left k u))
       → ((v : World) → v.registers.y ≡ n
       → (read pc s memory base true v).cycles ≡ n * (5 + more) + begun + 5 + crossed base (n + 1) → Left 0 v
       → Leads code (read pc s memory base true v) end Q) → Leads code w steps Q
@@ -91,7 +91,7 @@ module _ (code : Code) (pc s pointer base : ℕ) (memory : Memory) (Left : ℕ �
       counted code Round Q n begin (1 + round) (1 + end) steps w are (so code w begin _ _ first (λ v h. at_first v h))
       (λ k v r. one k v r) (λ v r. at_last v r)
     where
-      at_first : (v : World) → Comes 0 begun v × Left n v → Round n v
+      at_first : (v : World) → ReachesTop 0 begun v × Left n v → Round n v
       at_first v ((at, y, cycles, same), left) =
           record { at = at; index = omega (arith, y); cycles = omega (arith, cycles, y, none); same = same; left = left }
         where
@@ -101,10 +101,10 @@ module _ (code : Code) (pc s pointer base : ℕ) (memory : Memory) (Left : ℕ �
       one : (k : ℕ) (v : World) → Round (suc k) v → Leads code v (1 + round) (Round k)
       one k v r =
           reads (suc k) false v round _ r (not_zero _ (text.some v.registers.y (let a = r.index in omega (arith, a))))
-          (so code (read pc s memory base false v) round _ _ (once k v r.index r.left) (λ u h. behind u h))
+          (so code (read pc s memory base false v) round _ _ (once k v r.index r.left) (λ u h. following u h))
         where
-          behind : (u : World) → Comes ((v.registers.y + 1) % 256) ((read pc s memory base false v).cycles + more) u × Left k u → Round k u
-          behind u ((at, y, cycles, same), left) = record {
+          following : (u : World) → ReachesTop ((v.registers.y + 1) % 256) ((read pc s memory base false v).cycles + more) u × Left k u → Round k u
+          following u ((at, y, cycles, same), left) = record {
             at = at;
             index = omega (arith, up, r.index);
             cycles = less _ cycles (spent (suc k) v r) ∙ ap (λ i. n * (5 + more) + begun + crossed base i) (sym up);

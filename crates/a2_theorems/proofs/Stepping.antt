@@ -11,7 +11,7 @@ use Rattle.a2_services.specs.declared.rows.Service.{Service}
 use Rattle.a2_services.specs.World.{World}
 use Rattle.a2_services.specs.Services.{service_at, served}
 use Rattle.a2_machine.specs.declared.causes.Cause.TheVariants.{Returned, CodeWrite}
-use Rattle.a2_machine.specs.Meaning.{Code, Decoded, service_cause, instruction_cause, cause_of_refusal, return_address, found_at_pc, stuck, stuck_at, next, next_at}
+use Rattle.a2_machine.specs.Meaning.{Code, Decoded, service_cause, instruction_cause, cause_of_cpu_error, return_address, found_at_pc, stuck, stuck_at, next, next_at}
 use Rattle.a2_machine.proofs.Walks.{walked}
 
 -- a world that is not stuck continues with the next one
@@ -20,13 +20,13 @@ unfolding walked
 goes code w v free is = ap (λ o. let r : Option World = elim o [ Some cause ↦ None | None ↦ Some (next code w) ] in r) free ∙ ap Some is
 
 -- an instruction is at PC, which is not the return address and not the address of a service
-pub record Stands (code : Code) (w : World) (decoded : Decoded) : Type 0 where
+pub record IsAtPc (code : Code) (w : World) (decoded : Decoded) : Type 0 where
   pub found : found_at_pc code w ≡ Ok decoded
   pub no_return : (w.registers.pc == return_address) ≡ false
   pub no_service : service_at w.registers.pc ≡ None
 
 -- the instruction is executed, if nothing stops it and it does not store into code
-pub step : (code : Code) (w : World) (decoded : Decoded) → Stands code w decoded → refusal_of decoded.row.mnemonic w.registers.flags ≡ None
+pub step : (code : Code) (w : World) (decoded : Decoded) → IsAtPc code w decoded → refusal_of decoded.row.mnemonic w.registers.flags ≡ None
     → list_any (is_among code.protected) (stores_of memory_access decoded.row decoded.value w) ≡ false
     → walked code w 1 ≡ Some (performed memory_access decoded.row decoded.value w)
 unfolding stuck stuck_at next next_at
@@ -40,7 +40,7 @@ step code w decoded stands allowed free = goes code w _ is_free is_next
           | None ↦ elim (stands.found i) [ Err cause ↦ Some cause | Ok d ↦ instruction_cause code.protected d w ]
         ])
         ∙ (λ i. elim (allowed i) [
-          | Some why ↦ Some (cause_of_refusal why)
+          | Some why ↦ Some (cause_of_cpu_error why)
           | None ↦ if free i then Some CodeWrite else None
         ])
 

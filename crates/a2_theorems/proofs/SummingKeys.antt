@@ -2,7 +2,7 @@ use Rattle.std.specs.Prelude.{◌≡◌, ℕ, ◌+◌, ◌%◌, ◌∷◌, Some,
 use Rattle.std.proofs.Common.{arith}
 use Rattle.a2_machine.proofs.Computing.{computing}
 use Rattle.a2_theorems.specs.KeySum.{key_sum, KeySumSums}
-use Rattle.a2_theorems.proofs.Texts.{entry_of, runs}
+use Rattle.a2_theorems.proofs.TextRunProofs.{entry_of, runs}
 use Rattle.a2_theorems.proofs.Reading.{reading, starting, printing}
 
 read : entry_of key_sum ≡ Some 0x300

@@ -11,19 +11,19 @@ use Rattle.a2_run.specs.Meaning.{IsRefused, IsRun, output_of}
 
 -- the run returned and its whole output was sent; or a read failed or memory ran out, and nothing was sent; or a write
 -- failed after a prefix of the output
-abbrev pub Told : List ℕ → Taker → Taker → Result Cause RunFault → Type 0
-Told output old new (Ok cause) = (cause ≡ Returned) × Sends old new output
-Told output old new (Err (Source fault)) = ⊥
-Told output old new (Err (Script fault)) = ⊥
-Told output old new (Err Read) = Sends old new []
-Told output old new (Err Write) = Breaks old new output
-Told output old new (Err Memory) = Sends old new []
+abbrev pub IsRunResult : List ℕ → Taker → Taker → Result Cause RunFault → Type 0
+IsRunResult output old new (Ok cause) = (cause ≡ Returned) × Sends old new output
+IsRunResult output old new (Err (Source fault)) = ⊥
+IsRunResult output old new (Err (Script fault)) = ⊥
+IsRunResult output old new (Err Read) = Sends old new []
+IsRunResult output old new (Err Write) = Breaks old new output
+IsRunResult output old new (Err Memory) = Sends old new []
 
 -- every possible result of a guarded run of the text, with these keys and this limit, is of this form
 abbrev pub RunWrites : (text keys : List ℕ) (limit : ℕ) (attr : Bool) (output : List ℕ) → Type 0
 RunWrites text keys limit attr output =
     (old new : Taker) (result : Result Cause RunFault)
-    → Answers (OfSource (IsRefused text)) (IsRun text keys limit (record { free = false; attr = attr })) old new result → Told output old new result
+    → Answers (OfSource (IsRefused text)) (IsRun text keys limit (record { free = false; attr = attr })) old new result → IsRunResult output old new result
 
 -- A run of the text with these keys returns after this many steps, with every limit that allows them. `Q` holds in its
 -- last world, and the run writes the screen and the registers of that world.

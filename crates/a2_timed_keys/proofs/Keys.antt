@@ -1,4 +1,4 @@
--- The keys that are typed behind so many steps.
+-- The keys that are typed after so many steps.
 use Rattle.std.proofs.Common.{◌≡◌, ◌≢◌, ℕ, ◌+◌, ◌<◌, ◌≤◌, Bool, true, false, List, [], ◌∷◌, ◌++◌, length, take, drop, get_or, refl, sym, ap, ap₂, ◌∙◌, arith, cond, eqb, length-append}
 use Rattle.std.proofs.lemmas.Bool.{eq-eqb, ne_eqb, cond-false, cond-true}
 use Rattle.std.proofs.lemmas.List.{take_more, take-append-drop}
@@ -19,13 +19,13 @@ keys_at-not t i ne = cond-false _ _ _ (ne_eqb t.steps i ne)
 pub keys_at-here : (t : Typed) (i : ℕ) → t.steps ≡ i → keys_at (t ∷ []) i ≡ t.key ∷ []
 keys_at-here t i e = cond-true _ _ _ (eq-eqb t.steps i e)
 
--- a key more of a list
+-- one key more of a list
 pub keys_at-more : (log : List Typed) (i n : ℕ) (d : Typed) → i < length log
     → keys_at (take (i + 1) log) n ≡ keys_at (take i log) n ++ keys_at (get_or log i d ∷ []) n
 keys_at-more log i n d low =
     ap (λ (l : List Typed). keys_at l n) (take_more log i d low) ∙ keys_at-append (take i log) (get_or log i d ∷ []) n
 
--- a front has no more keys than all
+-- a front of a list has no more keys than the list
 pub keys_at-front : (log : List Typed) (i n : ℕ) → length (keys_at (take i log) n) ≤ length (keys_at log n)
 keys_at-front log i n =
     let whole : keys_at log n ≡ keys_at (take i log) n ++ keys_at (drop i log) n
@@ -34,7 +34,7 @@ keys_at-front log i n =
     = ap (λ (l : List ℕ). length l) whole ∙ length-append (keys_at (take i log) n) (keys_at (drop i log) n) in
     omega (arith, long)
 
--- where none of a front is typed, and not the next, none of the longer front is
+-- if no key of a front is typed, and the next key is not, then none of the longer front is
 pub none_more : (log : List Typed) (i n : ℕ) (d : Typed) → i < length log → keys_at (take i log) n ≡ [] → keys_at (get_or log i d ∷ []) n ≡ []
     → keys_at (take (i + 1) log) n ≡ []
 none_more log i n d low none next = keys_at-more log i n d low ∙ ap₂ (λ (x y : List ℕ). x ++ y) none next

@@ -3,5 +3,5 @@ pub mod Typing
 pub mod Worlds
 pub mod Running
 pub mod Meant
-pub mod Ended
+pub mod EndLaws
 pub mod ViewLaws

@@ -1,4 +1,4 @@
--- The run of a program's bytes at which keys are typed is that of its statements.
+-- The run of a program's bytes in which keys are typed is that of its statements.
 use Rattle.std.proofs.Common.{◌≡◌, ◌⊎◌, inl, inr, ℕ, zero, suc, ◌<◌, Bool, true, false, List, length, refl, sym, ap, ◌∙◌, subst, arith, Option, Some, None}
 use Rattle.a2_opcode.specs.declared.Instr.{Instr}
 use Rattle.a2_page.specs.declared.Page.{Page}
@@ -12,7 +12,7 @@ use Rattle.a2_services.specs.World.{World}
 use Rattle.a2_machine.specs.declared.causes.Cause.TheVariants.{Limit}
 use Rattle.a2_machine.specs.Meaning.{Code, End, stuck, next, statements}
 use Rattle.a2_machine.specs.ByteRun.{Guard, bytes}
-use Rattle.a2_machine.specs.Guarded.{HoldsCode, SayTheSame}
+use Rattle.a2_machine.specs.Guarded.{HoldsCode, BytesMatchStatements}
 use Rattle.a2_machine.specs.ProgramGuard.{guard_of_program}
 use Rattle.a2_machine.proofs.GuardedRuns.{next-keeps_code}
 use Rattle.a2_machine.proofs.Runs.{stuck-alike, next-alike}
@@ -39,7 +39,7 @@ same_byte keys memory a = go (cell_at a)
     go None = refl
 
 module _ (statement_at : ℕ → Option Instr) (guard : Guard) (laid : ℕ → ℕ) (start : World) (log : List Typed)
-    (says : SayTheSame statement_at guard laid) (starts : HoldsCode guard.code laid start.memory) where
+    (says : BytesMatchStatements statement_at guard laid) (starts : HoldsCode guard.code laid start.memory) where
   abbrev pub s : Code
   s = statements statement_at guard.code
 
@@ -62,7 +62,7 @@ module _ (statement_at : ℕ → Option Instr) (guard : Guard) (laid : ℕ → �
   unfolding statements bytes
   next-same w h = next-alike (statements statement_at guard.code) (bytes (Some guard)) w (says w.memory h w.registers.pc)
 
-  -- as far as no world is stuck the worlds are the same, and hold the code
+  -- as long as no world is stuck, the worlds are the same, and hold the code
   before : (n : ℕ) → ((k : ℕ) → k < n → stuck b (world_with_keys b start log k) ≡ None)
       → (world_before_keys s start log n ≡ world_before_keys b start log n) × HoldsCode guard.code laid (world_before_keys b start log n).memory
   unfolding world_before_keys world_with_keys

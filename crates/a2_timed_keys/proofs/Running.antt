@@ -1,4 +1,4 @@
--- A machine in the midst of a run at which keys are typed.
+-- A machine in the middle of a run in which keys are typed.
 use Rattle.std.proofs.Common.{◌≡◌, ◌⊎◌, inl, inr, ℕ, suc, ◌+◌, ◌-◌, ◌^◌, ◌<◌, ◌≤◌, List, [], length, refl, sym, ap, ap₂, ◌∙◌, subst, arith, Some, None}
 use Rattle.a2_bus.specs.View.{memory_of}
 use Rattle.a2_services.specs.World.{World}
@@ -6,18 +6,10 @@ use Rattle.a2_machine.specs.declared.causes.Cause.{Cause}
 use Rattle.a2_machine.specs.declared.causes.Cause.TheVariants.{Limit}
 use Rattle.a2_machine.specs.Meaning.{Code, stuck, world_at}
 use Rattle.a2_machine.specs.ByteRun.{bytes}
-use Rattle.a2_machine.specs.State.{Device, world_of_state, code_of, steps_left, IsMachineRun}
+use Rattle.a2_machine.specs.State.{Device, MachineState, world_of_state, code_of, steps_left, IsMachineRun}
 use Rattle.a2_timed_keys.specs.declared.strokes.Typed.{Typed}
-use Rattle.a2_timed_keys.specs.Typed.{keys_at, typed, with_keys, world_before_keys, world_with_keys, IsTypedStop, IsOverfull}
+use Rattle.a2_timed_keys.specs.Typed.{keys_at, typed, with_keys, world_before_keys, world_with_keys, IsTypedStop, IsOverfull, IsRunning, IsCopy}
 use Rattle.a2_timed_keys.proofs.Worlds.{waiting, waiting-typed, world-start, world-typed, before-more, with-more}
-
--- a machine stands behind so many steps, with the keys that are typed there
-pub record IsRunning (code : Code) (start : World) (log : List Typed) (limit made : ℕ) (machine : Device) : Type 0 where
-  pub within : made ≤ limit
-  pub steps : machine.state.steps ≡ made
-  pub code_is : code_of machine.state ≡ code
-  pub reached : world_of_state machine.state ≡ world_with_keys code start log made
-  pub first : (k : ℕ) → k < made → stuck code (world_with_keys code start log k) ≡ None
 
 pub keys_hold : (keys : List ℕ) (device : Device) → world_of_state (with_keys keys device).state ≡ typed keys (world_of_state device.state)
 unfolding typed memory_of
@@ -91,7 +83,7 @@ module _ (code : Code) (start : World) (log : List Typed) (limit made until : �
       ∙ ap₂ (λ c w. stuck c (world_at c w k)) (sym at.code_is) (sym at.reached)
       ∙ run.end.first k lt
 
-  -- it came to the steps where keys are typed next
+  -- it reached the steps where keys are typed next
   came : until ≤ new.state.steps → count ≡ until - made
   came h = omega (arith, few, new_is, h, more)
 
@@ -124,7 +116,7 @@ module _ (code : Code) (start : World) (log : List Typed) (limit made until : �
       subst (λ n. IsOverfull code start log limit n) (sym e)
       (overfull_until (omega (arith, e, h)) (subst (λ n. 4096 < length new.state.bus.devices.keys + length (keys_at log n)) e full))
 
-  -- it stopped before
+  -- it stopped before that
   pub stopped : new.state.steps < until → IsTypedStop code start log limit new.state cause
   unfolding count
   stopped h = record {
@@ -141,7 +133,7 @@ module _ (code : Code) (start : World) (log : List Typed) (limit made until : �
       go (inl e) = inl (ap (λ c. stuck c (world_of_state new.state)) (sym at.code_is) ∙ e)
       go (inr e) = absurd (omega (arith, e.1, h, at.steps, low, within, more, run.more))
 
--- all steps of the limit were made
+-- all steps of the limit were executed
 pub stopped_last : (code : Code) (start : World) (log : List Typed) (limit made : ℕ) (old new : Device) (cause : Cause) → limit ≤ made
     → IsMachineRun 0 old new cause → IsRunning code start log limit made old → IsTypedStop code start log limit new.state cause
 stopped_last code start log limit made old new cause all run at = record {
@@ -170,3 +162,86 @@ stopped_last code start log limit made old new cause all run at = record {
       omega (arith, none, at.steps, at.within, all),
       e.2,
     )
+
+pub came_last : (code : Code) (start : World) (log : List Typed) (limit made : ℕ) (old new : Device) (cause : Cause) → limit ≤ made
+    → IsMachineRun 0 old new cause → IsRunning code start log limit made old → IsRunning code start log limit limit new
+came_last code start log limit made old new cause all run at =
+    subst (λ (d : Device). IsRunning code start log limit limit d) (sym (run.none (omega (arith, run.more, run.end.within))))
+    (subst (λ (n : ℕ). IsRunning code start log limit n old) (omega (arith, all, at.within)) at)
+
+-- it runs on with another limit
+pub with_limit : (code : Code) (start : World) (log : List Typed) (limit until made : ℕ) (machine : Device) → made ≤ until
+    → IsRunning code start log limit made machine → IsRunning code start log until made machine
+with_limit code start log limit until made machine within at = record {
+  within = within;
+  steps = at.steps;
+  code_is = at.code_is;
+  reached = at.reached;
+  first = at.first;
+}
+
+-- by the code that it has
+pub by_own_code : (code : Code) (start : World) (log : List Typed) (limit until made : ℕ) (machine : Device) → made ≤ until
+    → IsRunning code start log limit made machine → IsRunning (code_of machine.state) start log until made machine
+by_own_code code start log limit until made machine within at =
+    subst (λ (c : Code). IsRunning c start log until made machine) (sym at.code_is) (with_limit code start log limit until made machine within at)
+
+-- a machine in the same state is in the middle of the same run
+pub same_state : (code : Code) (start : World) (log : List Typed) (limit made : ℕ) (a b : Device) → b.state ≡ a.state → made ≤ limit
+    → a.state.steps ≡ made → IsCopy code start log a → IsRunning code start log limit made b
+same_state code start log limit made a b e within steps is = record {
+  within = within;
+  steps = ap (λ (s : MachineState). s.steps) e ∙ steps;
+  code_is = ap (λ (s : MachineState). code_of s) e ∙ is.code_is;
+  reached = ap (λ (s : MachineState). world_of_state s) e ∙ is.reached ∙ ap (λ n. world_with_keys code start log n) steps;
+  first = λ k l. is.first k (omega (arith, l, steps));
+}
+
+pub copy_of : (code : Code) (start : World) (log : List Typed) (a b : Device) → b.state ≡ a.state → IsCopy code start log a → IsCopy code start log b
+copy_of code start log a b e is =
+    same_state code start log b.state.steps b.state.steps a b e (omega arith) (sym (ap (λ (s : MachineState). s.steps) e)) is
+
+pub is_copy : (code : Code) (start : World) (log : List Typed) (limit made : ℕ) (machine : Device) → IsRunning code start log limit made machine
+    → IsCopy code start log machine
+is_copy code start log limit made machine at =
+    let e : made ≡ machine.state.steps = sym at.steps in
+    subst (λ (n : ℕ). IsRunning code start log machine.state.steps n machine) e
+    (with_limit code start log limit machine.state.steps made machine (omega (arith, at.steps)) at)
+
+-- a run that stopped before a limit stopped before a greater one
+pub stopped_early : (code : Code) (start : World) (log : List Typed) (limit until : ℕ) (state : MachineState) (cause : Cause) → until ≤ limit
+    → state.steps < until → IsTypedStop code start log until state cause → IsTypedStop code start log limit state cause
+stopped_early code start log limit until state cause within early is = record {
+  within = omega (arith, within, early);
+  reached = is.reached;
+  first = is.first;
+  cause = go is.cause;
+}
+  where
+    go : (stuck code (world_of_state state) ≡ Some cause)
+        ⊎ ((stuck code (world_of_state state) ≡ None) × (state.steps ≡ until) × (cause ≡ Limit))
+        → (stuck code (world_of_state state) ≡ Some cause)
+        ⊎ ((stuck code (world_of_state state) ≡ None) × (state.steps ≡ limit) × (cause ≡ Limit))
+    go (inl e) = inl e
+    go (inr e) = absurd (omega (arith, e.1, early))
+
+pub overfull_early : (code : Code) (start : World) (log : List Typed) (limit until steps : ℕ) → until ≤ limit
+    → IsOverfull code start log until steps → IsOverfull code start log limit steps
+overfull_early code start log limit until steps within is =
+    record { within = omega (arith, within, is.within); first = is.first; full = is.full }
+
+-- what a run to a smaller limit gives, by the code of the machine that it began with, is of the whole run
+module _ (code : Code) (start : World) (log : List Typed) (limit made until : ℕ) (old : Device) (within : until ≤ limit)
+    (at : IsRunning code start log limit made old) where
+  pub running_part : (new : Device) → IsRunning (code_of old.state) start log until until new → IsRunning code start log limit until new
+  running_part new is =
+      subst (λ (c : Code). IsRunning c start log limit until new) at.code_is (with_limit (code_of old.state) start log until limit until new within is)
+
+  pub stopped_part : (state : MachineState) (cause : Cause) → state.steps < until → IsTypedStop (code_of old.state) start log until state cause
+      → IsTypedStop code start log limit state cause
+  stopped_part state cause early is =
+      stopped_early code start log limit until state cause within early (subst (λ (c : Code). IsTypedStop c start log until state cause) at.code_is is)
+
+  pub overfull_part : (steps : ℕ) → IsOverfull (code_of old.state) start log until steps → IsOverfull code start log limit steps
+  overfull_part steps is =
+      overfull_early code start log limit until steps within (subst (λ (c : Code). IsOverfull c start log until steps) at.code_is is)

@@ -1,4 +1,4 @@
--- The worlds of a run at which keys are typed.
+-- The worlds of a run in which keys are typed.
 use Rattle.std.proofs.Common.{◌≡◌, ℕ, zero, suc, ◌+◌, ◌-◌, ◌<◌, ◌≤◌, List, [], ◌++◌, length, refl, ap, ◌∙◌, arith, append_assoc, length-append}
 use Rattle.std.proofs.lemmas.List.{append-nil}
 use Rattle.a2_services.specs.World.{World}
@@ -39,7 +39,7 @@ module _ (code : Code) (start : World) (log : List Typed) where
   unfolding world_with_keys
   world-typed n = refl
 
-  -- where no key is typed
+  -- if no key is typed
   pub world-none : (n : ℕ) → keys_at log n ≡ [] → world_with_keys code start log n ≡ world_before_keys code start log n
   world-none n e = world-typed n ∙ ap (λ ks. typed ks (world_before_keys code start log n)) e ∙ typed-nil (world_before_keys code start log n)
 
@@ -47,7 +47,7 @@ module _ (code : Code) (start : World) (log : List Typed) where
   unfolding world_with_keys world_before_keys
   world-next n = refl
 
-  -- behind steps between which none is typed
+  -- after steps between which no key is typed
   pub before-more : (n j m : ℕ) → m ≡ n + suc j → ((k : ℕ) → n < k → k < m → keys_at log k ≡ [])
       → world_before_keys code start log m ≡ world_at code (world_with_keys code start log n) (suc j)
   unfolding world_at

@@ -1,2 +1,3 @@
 pub mod Typed
 pub mod Words
+pub mod Finished

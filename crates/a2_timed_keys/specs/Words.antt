@@ -1,4 +1,4 @@
--- Keys with their steps, as a word of a command line says them. This project's profile.
+-- Keys with their steps, as an argument of a command line gives them. This project's profile.
 use Rattle.std.specs.Prelude.{◌≡◌, ℕ, ◌<◌, ◌≤◌, ◌==◌, Bool, List, length}
 use Rattle.std.specs.List.{position_or_len, before_first, after_first}
 use Rattle.std.specs.Str.Parse.{digits_value}
@@ -8,7 +8,7 @@ use Rattle.a2_run.specs.Limits.{IsStepLimit}
 abbrev pub is_colon : ℕ → Bool
 is_colon character = character == 58
 
--- a number of steps stands before the first colon, and keys that fit behind it
+-- a number of steps is before the first colon, and keys that fit are after it
 pub record IsStroke (word : List ℕ) (steps : ℕ) (keys : List ℕ) : Type 0 where
   pub has_colon : position_or_len is_colon word < length word
   pub is_number : IsStepLimit (before_first is_colon word)

@@ -1,21 +1,24 @@
-//! Runs at which keys are typed behind steps.
+//! Runs a program while keys are typed after given steps.
 //!
-//! How it is called is shown in CALLING.md.
+//! CALLING.md shows how to call it.
 #![tactic(auto)]
 
 ghost use Rattle.a2_timed_keys.specs.Typed.{NoKeysAreARun};
 
+mod earlier;
+mod ended;
 mod run;
 mod shown;
 mod strokes;
 mod words;
 
-pub use run::{TypedFault, ended_typed};
+pub use ended::{Ended, TimedArgs};
+pub use run::TypedFault;
 pub use shown::show;
 pub use strokes::{Strokes, Typed};
 pub use words::{StrokeFault, stroke_in};
 
-/// A run at which no key is typed is the run of `a2_machine`, with every limit.
+/// A run in which no key is typed is the run of `a2_machine`, with every limit.
 pub fn no_keys_are_a_run()
     ensures { NoKeysAreARun }
 {}

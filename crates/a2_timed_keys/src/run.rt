@@ -1,22 +1,20 @@
-//! Where a run ends at which keys are typed.
+//! Runs in which keys are typed.
 
-ghost use Rattle.std.specs.Prelude.{◌≡◌, ◌+◌, ◌<◌, ◌≤◌, ◌^◌, ◌∷◌, [], ℕ, All, length, Some, None, IfOk, IfErr, IfNone, IfSome};
-ghost use Rattle.a2_machine.specs.State.{code_of, world_of_state};
-ghost use Rattle.a2_timed_keys.specs.Typed.{keys_at, IsOverfull, IsTypedRun, IsTypedFault, IsTypedStop};
+ghost use Rattle.std.specs.Prelude.{◌≡◌, ◌+◌, ◌<◌, ◌≤◌, ◌^◌, ◌∷◌, [], ℕ, All, IfOk, IfErr};
+ghost use Rattle.a2_services.specs.World.{World};
+ghost use Rattle.a2_machine.specs.State.{code_of};
+ghost use Rattle.a2_timed_keys.specs.Typed.{keys_at, IsOverfull, IsRunning, IsTypedStop};
 
-use crate::strokes::{Strokes, Typed, type_due};
-use a2_asm::Program;
-use a2_bus::Keys;
+use crate::strokes::{Typed, type_due};
 use a2_machine::{Cause, Machine};
-use a2_run::started;
 use std::alloc::{AllocError, Allocator};
 
 /// Why a run has no end.
 #[derive(Clone, Copy)]
 pub enum TypedFault {
-    /// Behind so many steps more than 4,096 keys would wait.
+    /// After so many steps, more than 4,096 keys would wait.
     Full(u64),
-    /// A growth of memory was refused.
+    /// There was not enough memory.
     Memory,
 }
 
@@ -30,7 +28,7 @@ impl From<AllocError> for TypedFault {
     }
 }
 
-// The steps of a key where they are above those that were made and below `until`, else these.
+// Returns the steps of a key if they are more than `made` and fewer than `until`, and otherwise `until`.
 fn sooner(stroke: Typed, made: u32, until: u32) -> u32
     requires { made < until }
     ensures more { made < result }
@@ -46,7 +44,7 @@ fn sooner(stroke: Typed, made: u32, until: u32) -> u32
     stroke.steps as u32
 }
 
-// The steps, above those that were made and at most `limit`, up to which no key is typed.
+// Returns the greatest number of steps, more than `made` and at most `limit`, before which no key is typed.
 fn next_due(typed: &[Typed], made: u32, limit: u32) -> u32
     requires { made < limit }
     ensures more { made < result }
@@ -60,24 +58,27 @@ fn next_due(typed: &[Typed], made: u32, limit: u32) -> u32
     until
 }
 
-// Runs a machine from its start, and types keys behind their steps: the cause of its end, or the steps behind which they do not
-// fit.
-fn run_typed<A: Allocator>(
+/// Runs a machine on that has executed `begun` steps since its start, with the keys of these steps typed, and types keys after
+/// their steps. Returns the cause of the run's end, or the steps after which the keys do not fit.
+pub(crate) fn run_on<A: Allocator>(
     machine: &mut Machine<A>,
     typed: &[Typed],
+    begun: u32,
     limit: u32,
 ) -> Result<Cause, u64>
     requires codes { All (λ t. t.key < 128) typed.now }
-    requires start { machine.old.state.steps ≡ 0 }
-    ensures stopped { IfOk result (λ cause. IsTypedStop (code_of machine.old.state)
-        (world_of_state machine.old.state) typed.now limit machine.new.state cause) }
-    ensures full { IfErr result (λ steps. IsOverfull (code_of machine.old.state)
-        (world_of_state machine.old.state) typed.now limit steps) }
+    ensures stopped { IfOk result (λ cause. (start : World)
+        → IsRunning (code_of machine.old.state) start typed.now limit begun machine.old
+        → IsTypedStop (code_of machine.old.state) start typed.now limit machine.new.state cause) }
+    // If the machine has executed `limit` steps, it can run on with a greater limit.
+    ensures came { IfOk result (λ _. (start : World)
+        → IsRunning (code_of machine.old.state) start typed.now limit begun machine.old
+        → limit ≤ machine.new.state.steps → IsRunning (code_of machine.old.state) start typed.now limit limit machine.new) }
+    ensures full { IfErr result (λ steps. (start : World)
+        → IsRunning (code_of machine.old.state) start typed.now limit begun machine.old
+        → IsOverfull (code_of machine.old.state) start typed.now limit steps) }
 {
-    let mut made = 0;
-    if !type_due(machine, typed, 0) {
-        return Err(0);
-    }
+    let mut made = begun;
     while made < limit {
         let until = next_due(typed, made, limit);
         let cause = machine.run(until - made);
@@ -91,28 +92,4 @@ fn run_typed<A: Allocator>(
         made = until;
     }
     Ok(machine.run(0))
-}
-
-/// Runs `program` with `keys` waiting at its start, and types those of `strokes`, each when so many steps are made as it says:
-/// the machine as the run leaves it, and the cause of its end. Keys behind more steps than the run makes are not typed. `limit`
-/// is the most steps, `free` runs without the guard. Refused where keys are to be typed behind which more than 4,096 would wait,
-/// and for want of memory. This project's profile.
-pub fn ended_typed<A: Allocator + Copy, B: Allocator>(
-    alloc: A,
-    program: &Program<A>,
-    keys: &Keys,
-    strokes: &Strokes<B>,
-    limit: u32,
-    free: bool,
-) -> Result<(Machine<A>, Cause), TypedFault>
-    ensures ended { IfOk result (λ answer. IsTypedRun program.now keys.now strokes.now limit free answer.0.state answer.1) }
-    ensures refused { IfErr result (λ fault. IsTypedFault program.now keys.now strokes.now limit free fault) }
-{
-    // For the prover alone: a law of every program, by which the guarded bytes run as its statements.
-    program.is_sound();
-    let mut machine = started(alloc, program, keys, free)?;
-    match run_typed(&mut machine, strokes.as_slice(), limit) {
-        Ok(cause) => Ok((machine, cause)),
-        Err(steps) => Err(TypedFault::Full(steps)),
-    }
 }

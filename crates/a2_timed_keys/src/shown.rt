@@ -37,7 +37,7 @@ fn put_lines<A: Allocator, W: Output>(
 }
 
 /// Writes what a run shows that left `machine` by `cause`, as `a2_run` does: the picture, the register line and the cause line.
-/// Refused where a write fails, which is the last one made: a front of this went out.
+/// Fails if a write fails: no further write follows, and a front of this was written.
 #[tactic(auto, using(a2_stream::proofs::Joined::broke_off, a2_stream::proofs::Joined::went_on))]
 pub fn show<A: Allocator, W: Output>(
     machine: &Machine<A>,

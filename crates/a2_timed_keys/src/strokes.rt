@@ -1,14 +1,14 @@
-//! Keys that are typed behind steps.
+//! Keys that are typed after given steps.
 
 ghost use Rattle.std.specs.Prelude.{◌≡◌, ◌+◌, ◌<◌, ◌++◌, ◌∷◌, [], true, false, All, length, OnOk};
-ghost use Rattle.a2_timed_keys.specs.Typed.{keys_at, typed_behind, with_keys};
+ghost use Rattle.a2_timed_keys.specs.Typed.{keys_at, typed_after, with_keys};
 
 use a2_bus::Keys;
 use a2_machine::Machine;
 use std::alloc::{AllocError, Allocator, Global};
 use std::marker::Model;
 
-/// A key, and the steps that are made when it is typed.
+/// A key, and after how many steps it is typed.
 #[derive(Clone, Copy, Debug, PartialEq, Eq)]
 pub struct Typed {
     pub steps: u64,
@@ -16,7 +16,7 @@ pub struct Typed {
     pub key: u8,
 }
 
-/// Keys that are typed at a run, each behind its steps. Contracts see a list.
+/// The keys that are typed in a run, each after its steps. Contracts see a list.
 #[derive(Drop)]
 pub struct Strokes<A: Allocator = Global> {
     typed: Vec<Typed, A>,
@@ -33,7 +33,7 @@ impl<A: Allocator> Model for Strokes<A> {
     ghost invariant = { λ s. All (λ t. t.key < 128) s.typed.items };
 }
 
-// Notes keys that are typed behind so many steps.
+// Adds keys that are typed after so many steps.
 fn note_keys<A: Allocator>(
     typed: &mut Vec<Typed, A>,
     steps: u64,
@@ -41,7 +41,7 @@ fn note_keys<A: Allocator>(
 ) -> Result<(), AllocError>
     requires codes { All (λ key. key < 128) keys.now }
     requires typed { All (λ t. t.key < 128) typed.old.items }
-    ensures added { OnOk result (typed.new.items ≡ typed.old.items ++ typed_behind steps keys.now) }
+    ensures added { OnOk result (typed.new.items ≡ typed.old.items ++ typed_after steps keys.now) }
     ensures codes { All (λ t. t.key < 128) typed.new.items }
 {
     for key in keys {
@@ -50,7 +50,7 @@ fn note_keys<A: Allocator>(
     Ok(())
 }
 
-// Types a key where it is one of these steps: whether there was room.
+// Types a key if it is one of these steps. Returns whether there was room.
 fn type_stroke<A: Allocator>(machine: &mut Machine<A>, stroke: Typed, steps: u64) -> bool
     requires { stroke.key < 128 }
     ensures typed { result ≡ true → machine.new ≡ with_keys (keys_at (stroke ∷ []) steps) machine.old }
@@ -62,7 +62,7 @@ fn type_stroke<A: Allocator>(machine: &mut Machine<A>, stroke: Typed, steps: u64
     machine.type_keys(&Keys::one(stroke.key)).is_ok()
 }
 
-/// Types the keys of these steps, where there is room for all of them: whether there was.
+/// Types the keys of these steps, if there is room for all of them. Returns whether there was.
 pub(crate) fn type_due<A: Allocator>(machine: &mut Machine<A>, typed: &[Typed], steps: u64) -> bool
     requires { All (λ t. t.key < 128) typed.now }
     ensures typed { result ≡ true → machine.new ≡ with_keys (keys_at typed.now steps) machine.old }
@@ -77,7 +77,7 @@ pub(crate) fn type_due<A: Allocator>(machine: &mut Machine<A>, typed: &[Typed], 
 }
 
 impl<A: Allocator> Strokes<A> {
-    /// No keys.
+    /// Returns an empty list.
     pub fn new(alloc: A) -> Strokes<A>
         ensures { result ≡ [] }
     {
@@ -86,14 +86,15 @@ impl<A: Allocator> Strokes<A> {
         }
     }
 
-    /// Adds keys that are typed behind so many steps, behind those that were added for the same. Refused only for want of memory.
+    /// Adds keys that are typed after so many steps, and after keys that were added for the same steps. Fails only if there is not
+    /// enough memory.
     pub fn add(&mut self, steps: u32, keys: &Keys) -> Result<(), AllocError>
-        ensures { OnOk result (self.new ≡ self.old ++ typed_behind steps keys.now) }
+        ensures { OnOk result (self.new ≡ self.old ++ typed_after steps keys.now) }
     {
         note_keys(&mut self.typed, u64::from(steps), keys.bytes())
     }
 
-    /// The keys in the order in which they were added, each from 0 to 127.
+    /// Returns the keys in the order in which they were added, each from 0 to 127.
     pub fn as_slice(&self) -> &[Typed]
         ensures keys { result.now ≡ self.now }
         ensures codes { All (λ t. t.key < 128) self.now }
@@ -101,8 +102,8 @@ impl<A: Allocator> Strokes<A> {
         self.typed.as_slice()
     }
 
-    /// Types at a machine the keys of the steps that it has made since its start, where there is room for all of them: whether
-    /// there was.
+    /// Types at a machine the keys of the steps that it has executed since its start, if there is room for all of them. Returns
+    /// whether there was.
     pub fn type_due<B: Allocator>(&self, machine: &mut Machine<B>) -> bool
         ensures typed { result ≡ true → machine.new ≡ with_keys (keys_at self.now machine.old.state.steps) machine.old }
         ensures full { result ≡ false → 4096 < length machine.old.state.bus.devices.keys + length

@@ -1,4 +1,4 @@
-//! Keys with their steps, as a word of a command line says them.
+//! Keys with their steps, as an argument of a command line gives them.
 
 ghost use Rattle.std.specs.Prelude.{ℕ, List, IfOk, IfErr};
 ghost use Rattle.a2_timed_keys.specs.Words.{IsStroke};
@@ -6,17 +6,17 @@ ghost use Rattle.a2_timed_keys.specs.Words.{IsStroke};
 use a2_bus::Keys;
 use a2_run::step_limit;
 
-/// Why a word says no keys with their steps.
+/// Why an argument does not give keys with their steps.
 #[derive(Clone, Copy)]
 pub enum StrokeFault {
-    /// No number of steps stands before a colon.
+    /// The number of steps before the colon is missing.
     Steps,
-    /// The keys behind it are badly spelt.
+    /// The keys after it are badly spelt.
     Keys,
 }
 
-/// The keys that `word` says, and the steps behind which they are typed: a number of 0 to 100,000,000, `:`, and the keys as
-/// [`Keys::parse`] reads them. This project's profile.
+/// Returns the keys that `word` gives, and the steps after which they are typed: a number from 0 to 100,000,000, `:`, and the keys
+/// as [`Keys::parse`] reads them. This project's profile.
 pub fn stroke_in(word: &str) -> Result<(u32, Keys), StrokeFault>
     ensures said { IfOk result (λ stroke. IsStroke word.now stroke.0 stroke.1) }
     ensures refused { IfErr result (λ _. (steps : ℕ) (keys : List ℕ) → IsStroke word.now steps keys → ⊥) }

@@ -30,7 +30,7 @@ use Rattle.a2_trace.specs.declared.calls.Visit.{Visit}
 use Rattle.a2_trace.specs.Calls.{visit_of, entered_row, spent_row, is_within, word_of, left_rows, visits, visits_called, call_row, back_rows, call_rows, call_tree, IsCallTreeOf}
 use Rattle.a2_trace.specs.Called.{begun, IsTree, Draws}
 
--- The rows of those that are left
+-- The rows of the routines that are left
 
 abbrev pub no_visit : Visit
 no_visit = record { caller = 0; begin = 0; s = 0; steps = 0; cycles = 0 }
@@ -65,7 +65,7 @@ module _ (s : Option ℕ) (program : Assembled) (steps cycles : ℕ) where
 
 -- Stack pointers
 
--- each routine's is below that of the one around it, and all are below a bound
+-- the stack pointer of each routine is below that of its caller, and all are below a bound
 abbrev pub Falls : ℕ → List Visit → Type 0
 Falls bound [] = Unit {0}
 Falls bound (v ∷ vs) = (v.s < bound) × Falls v.s vs
@@ -74,7 +74,7 @@ abbrev pub Above : ℕ → List Visit → Type 0
 Above s [] = Unit {0}
 Above s (v ∷ vs) = (s < v.s) × Above s vs
 
--- so there are few
+-- so there are only a few routines
 pub few : (bound s : ℕ) (vs : List Visit) → Falls bound vs → Above s vs → s < bound → length vs + s < bound
 few bound s [] falls above low = omega (arith, low)
 few bound s (v ∷ vs) falls above low = omega (arith, few v.s s vs falls.1 above.1 above.0, falls.0)
@@ -105,7 +105,7 @@ above-filter s (v ∷ vs) = filtered-above s (nat_lt s v.s) v (filter (λ v. nat
 
 -- Steps
 
--- so many steps are made, and their rows went out
+-- n steps are executed, and their rows were written
 pub record IsDrawn (program : Assembled) (code : Code) (start : World) (a b : Taker) (d : Device) (n : ℕ) (items : List Visit) : Type 0 where
   pub gone : IsGone code start d n
   pub items_are : items ≡ visits (world_at code start) n

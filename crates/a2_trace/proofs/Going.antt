@@ -10,9 +10,9 @@ use Rattle.a2_machine.specs.State.{Device, world_of_state, code_of, cause_of, mo
 use Rattle.a2_machine.specs.State as machine
 use Rattle.a2_machine.proofs.Making.{cause_told, cause_none}
 
--- A step more
+-- One more step
 
--- so many steps are made
+-- n steps are executed
 pub record IsGone (code : Code) (start : World) (d : Device) (n : ℕ) : Type 0 where
   pub steps : d.state.steps ≡ n
   pub world : world_of_state d.state ≡ world_at code start n
@@ -23,7 +23,7 @@ pub gone-none : (d : Device) → d.state.steps ≡ 0 → IsGone (code_of d.state
 unfolding world_at
 gone-none d steps = record { steps = steps; world = refl; code_is = refl; going = λ k lt. absurd (omega (arith, lt)) }
 
--- below the greatest number of steps a machine's cause is why it is stuck
+-- below the greatest number of steps, the cause of a machine says why it is stuck
 cause-stuck : (d : Device) → d.state.steps < most_steps → cause_of d.state ≡ stuck (code_of d.state) (world_of_state d.state)
 cause-stuck d low = go (stuck (code_of d.state) (world_of_state d.state)) refl
   where
@@ -31,14 +31,14 @@ cause-stuck d low = go (stuck (code_of d.state) (world_of_state d.state)) refl
     go None e = sym (cause_none d e low) ∙ sym e
     go (Some cause) e = sym (cause_told d cause e) ∙ sym e
 
--- a machine that steps is not stuck
+-- a machine that can execute a step is not stuck
 steps-on : (code : Code) (start : World) (d : Device) (n : ℕ) → IsGone code start d n → n < most_steps → None ≡ cause_of d.state
     → stuck code (world_at code start n) ≡ None
 steps-on code start d n h low none =
     sym (subst (λ k. stuck k (world_of_state d.state) ≡ stuck code (world_at code start n)) (sym h.code_is) (ap (stuck code) h.world))
     ∙ sym (cause-stuck d (omega (arith, h.steps, low))) ∙ sym none
 
--- its step leads to the next world
+-- the step of a machine leads to the next world
 pub step-reached : (code : Code) (start : World) (old new : Device) (n : ℕ) → IsGone code start old n → IsStep old new
     → world_of_state new.state ≡ world_at code start (suc n)
 unfolding world_at

@@ -14,7 +14,7 @@ is_high n = eqb (slice_index_or (pairs hex_pair 256) (2 * n) 0) (hex_digit (n / 
 abbrev is_low : ℕ → Bool
 is_low n = eqb (slice_index_or (pairs hex_pair 256) (2 * n + 1) 0) (hex_digit (n % 16))
 
--- those of a byte stand where they are looked for
+-- the digits of a byte are at their place in the table
 pub pair-at : (n : ℕ) → n < 256 → slice_index_or (pairs hex_pair 256) (2 * n) 0 ∷ slice_index_or (pairs hex_pair 256) (2 * n + 1) 0 ∷ [] ≡ hex_pair n
 pair-at n small =
     ap₂ (λ (a b : ℕ). a ∷ b ∷ []) (eqb-true _ _ (agree_below_at is_high (λ _. true) 256 n refl small))
@@ -26,13 +26,13 @@ is_tens n = eqb (slice_index_or (pairs decimal_pair 100) (2 * n) 0) (48 + n / 10
 abbrev is_ones : ℕ → Bool
 is_ones n = eqb (slice_index_or (pairs decimal_pair 100) (2 * n + 1) 0) (48 + n % 10)
 
--- those of a number below 100 stand where they are looked for
+-- the digits of a number below 100 are at their place in the table
 pub decimal-at : (n : ℕ) → n < 100 → slice_index_or (pairs decimal_pair 100) (2 * n) 0 ∷ slice_index_or (pairs decimal_pair 100) (2 * n + 1) 0 ∷ [] ≡ decimal_pair n
 decimal-at n small =
     ap₂ (λ (a b : ℕ). a ∷ b ∷ []) (eqb-true _ _ (agree_below_at is_tens (λ _. true) 100 n refl small))
     (eqb-true _ _ (agree_below_at is_ones (λ _. true) 100 n refl small))
 
--- the last two digits of a number that has more
+-- the last two digits of a number with more digits
 pub last-pair : (n : ℕ) → 100 ≤ n → n < 2 ^ 64 → decimal n ≡ decimal (n / 100) ++ decimal_pair (n % 100)
 last-pair n large fits =
     decimal_step n (omega arith) fits

@@ -1,4 +1,4 @@
--- What the calls for a step tell of its stores.
+-- What the calls for a step say about its stores.
 use Rattle.std.specs.Prelude.{◌||◌, Result, Ok, Err}
 use Rattle.std.proofs.Common.{◌≡◌, ℕ, zero, suc, ◌+◌, ◌-◌, ◌<◌, Bool, true, false, length, slice_get, Option, Some, None, is_some, refl, sym, ap, subst, ◌∙◌, true≢false, arith}
 use Rattle.std.specs.List.{list_any}
@@ -20,7 +20,7 @@ use Rattle.a2_machine.proofs.Outcomes.{stores-world, fetched-world}
 use Rattle.a2_trace.specs.Traced.{MakesStep}
 use Rattle.a2_trace.specs.Choices.{is_in, is_other_at, differ_from, stores_in}
 
--- where an instruction stores on a board is where it stores in the world
+-- an instruction stores at the same addresses on a board as in the world
 fetched-stores : (found : Fetched) (registers : Registers) (bus : BusState) (cycles : ℕ) → length bus.bytes ≡ ram_end
     → stores_at board_access found (state_of registers bus) ≡ stores_at memory_access found (world_of registers bus cycles)
 unfolding stores_at
@@ -62,7 +62,7 @@ module _ (span : Span) (before after : World) where
       go None is = refl
       go (Some service) is = absurd (true≢false is)
 
--- memories that are compared from an address on
+-- comparing memories from an address on
 pub differ_next : (old new : Memory) (a left : ℕ) → 0 < left
     → differ_from old new a left ≡ (is_other_at old new a || differ_from old new (a + 1) (left - 1))
 unfolding differ_from

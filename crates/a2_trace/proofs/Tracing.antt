@@ -31,7 +31,7 @@ use Rattle.a2_trace.specs.Traced.{AreLines, IsCountOf, IsLeftOut, Traces}
 none-some : {X : Type 0} (x : X) → None ≡ Some x → ⊥
 none-some x e = true≢false (sym (ap is_some e))
 
--- below the greatest number of steps a machine's cause is why it is stuck
+-- below the greatest number of steps, the cause of a machine says why it is stuck
 cause-stuck : (d : Device) → d.state.steps < most_steps → cause_of d.state ≡ stuck (code_of d.state) (world_of_state d.state)
 cause-stuck d low = go (stuck (code_of d.state) (world_of_state d.state)) refl
   where
@@ -47,11 +47,11 @@ pub byte-is : (b : Bool) → bool_byte b ≡ one_if b
 byte-is true = refl
 byte-is false = refl
 
--- the step behind the first n is chosen
+-- the step after the first n is chosen
 abbrev chosen_at : Choice → Code → World → ℕ → Bool
 chosen_at choice code start n = is_chosen choice (n + 1) (world_at code start n) (world_at code start (suc n))
 
--- so many steps are made, and so many of them chosen
+-- n steps are executed, and the count of chosen steps is right
 pub record IsMade (choice : Choice) (code : Code) (start : World) (d : Device) (n count : ℕ) : Type 0 where
   pub steps : d.state.steps ≡ n
   pub world : world_of_state d.state ≡ world_at code start n
@@ -74,14 +74,14 @@ below_next n P here before k lt = go (split k lt)
     go (inl e) = subst P (sym e) here
     go (inr l) = before k l
 
--- a machine that steps is not stuck
+-- a machine that can execute a step is not stuck
 steps-on : (choice : Choice) (code : Code) (start : World) (d : Device) (n count : ℕ) → IsMade choice code start d n count → n < most_steps → None ≡ cause_of d.state
     → stuck code (world_at code start n) ≡ None
 steps-on choice code start d n count h low none =
     sym (subst (λ k. stuck k (world_of_state d.state) ≡ stuck code (world_at code start n)) (sym h.code_is) (ap (stuck code) h.world))
     ∙ sym (cause-stuck d (omega (arith, h.steps, low))) ∙ sym none
 
--- A step more
+-- One more step
 
 module _ (choice : Choice) (code : Code) (start : World) (old new : Device) (n count : ℕ) (h : IsMade choice code start old n count) (step : IsStep old new)
     (near chosen : Bool) (near_is : near ≡ is_near choice (old.state.steps + 1) (world_of_state old.state))
@@ -117,7 +117,7 @@ module _ (choice : Choice) (code : Code) (start : World) (old new : Device) (n c
     few = omega (arith, h.few, one-at-most chosen);
   }
 
-  -- the line of the step, where it is shown
+  -- the line of the step, if it is shown
   pub line-next : (skip : ℕ) (late : Bool) (front piece : List ℕ) → late ≡ nat_le skip count
       → (near ≡ true → late ≡ true → front ≡ padded (at_pc (world_of_state old.state)))
       → piece ≡ (if chosen && late then front ++ register_line (registers_of new.state.regs) new.state.steps new.state.cycles else [])
@@ -195,12 +195,12 @@ count-end choice code start d n limit count cause h is = record {
   count_is = h.count_is;
 }
 
--- so many steps are made, and their lines went out
+-- n steps are executed, and their lines were written
 pub record IsTraced (choice : Choice) (skip : ℕ) (code : Code) (start : World) (a b : Taker) (d : Device) (n count : ℕ) : Type 0 where
   pub made : IsMade choice code start d n count
   pub sent : Sends a b (step_lines choice skip code start n)
 
--- the cause line goes out behind the lines, or breaks off
+-- the cause line is written after the lines, or its write fails
 pub traces-end : (choice : Choice) (skip : ℕ) (code : Code) (start : World) (a b c : Taker) (d : Device) (n limit count : ℕ) (cause : Cause) (r : Result Cause WriteFault)
     → IsTraced choice skip code start a b d n count
     → IsEnd code start limit (record { world = world_of_state d.state; steps = n; cause = cause }) → SendsOrBreaks b c r (cause_line cause) → IfOk r (λ told. told ≡ cause)
@@ -225,7 +225,7 @@ lines-more choice skip code start n (suc more) =
     let line = shown_line choice skip code start (n + more) in
     (rest ++ line, ap (step_lines choice skip code start) e ∙ ap (λ (l : List ℕ). l ++ line) is ∙ append_assoc (step_lines choice skip code start n) rest line)
 
--- a run that has made so many steps makes so many at least
+-- a run that has executed n steps executes at least n
 end-late : (code : Code) (start : World) (limit n : ℕ) (end : End) → IsEnd code start limit end → ((k : ℕ) → k < n → stuck code (world_at code start k) ≡ None) → n ≤ limit → n ≤ end.steps
 end-late code start limit n end is going within = go (split end.steps n)
   where
@@ -240,7 +240,7 @@ end-late code start limit n end is going within = go (split end.steps n)
     go (inl le) = le
     go (inr lt) = short lt is.cause
 
--- a line broke off
+-- the write of a line failed
 lines-broken : (choice : Choice) (skip : ℕ) (code : Code) (start : World) (a c : Taker) (n limit : ℕ) → ((k : ℕ) → k < n → stuck code (world_at code start k) ≡ None) → n ≤ limit
     → Breaks a c (step_lines choice skip code start n) → (cause : Cause) × (output : List ℕ) × AreLines choice skip code start limit cause output × Breaks a c output
 lines-broken choice skip code start a c n limit going within broke =
@@ -269,11 +269,11 @@ traces-broken choice skip code start a b e old new n limit count more piece (Err
 
 -- The trace of the text's run
 
--- each end of the one code's runs from a start is an end of the other's
+-- each end of a run of one code from a start is an end of a run of the other
 abbrev EndAlike : Code → Code → World → Type 0
 EndAlike code other start = (limit : ℕ) (end : End) → IsEnd code start limit end → IsEnd other start limit end
 
--- so both go through the same worlds: a run that is limited to so many steps ends at the last of them
+-- so both go through the same worlds: a run that is limited to n steps ends at the last of them
 same-world : (code other : Code) (start : World) (n : ℕ) → EndAlike code other start → ((k : ℕ) → k < n → stuck code (world_at code start k) ≡ None)
     → world_at code start n ≡ world_at other start n
 same-world code other start n alike going =

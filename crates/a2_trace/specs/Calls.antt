@@ -1,4 +1,4 @@
--- The routines of a run as a tree: a row where one is entered, and one where it is left, which `entered` says. This project's
+-- The routines of a run as a tree: a row for each entry of a routine and a row for each return from it. This project's
 -- profile.
 use Rattle.std.specs.Prelude.{◌≡◌, ℕ, zero, suc, ◌+◌, ◌-◌, ◌*◌, ◌==◌, nat_lt, Bool, false, List, [], ◌∷◌, ◌++◌, map, length, take, codes, find, Option, Some, None, if◌then◌else◌}
 use Rattle.std.specs.List.{concat}
@@ -22,8 +22,8 @@ use Rattle.a2_profile.specs.Routines.{begin_of}
 use Rattle.a2_profile.specs.RoutineTable.{name_of}
 use Rattle.a2_trace.specs.declared.calls.Visit.{Visit}
 
--- what is told of a routine that was entered: where its JSR stands and where it begins, the stack pointer before the JSR, and the
--- steps and cycles of the run behind it
+-- what is recorded of a routine that was entered: where its JSR is and where it begins, the stack pointer before the JSR, and the
+-- steps and cycles of the run after it
 abbrev pub visit_of : (ℕ → World) → Entry → Visit
 visit_of worlds entry = record {
   caller = entry.call;
@@ -33,7 +33,7 @@ visit_of worlds entry = record {
   cycles = (worlds (suc entry.position)).cycles;
 }
 
--- two blanks for each routine around it, of 32 at most
+-- two blanks for each routine around it, for at most 32 of them
 abbrev pub indent : ℕ → List ℕ
 indent depth = take (2 * depth) (codes "                                                                ")
 
@@ -41,7 +41,7 @@ abbrev pub service_text : Option Service → List ℕ
 service_text None = []
 service_text (Some service) = service_name service
 
--- the name of a routine that begins at an address: the first of the source, or else that of a service
+-- the name of a routine that begins at an address: the first name in the source, or else that of a service
 abbrev pub routine_name : Names → ℕ → List ℕ
 routine_name names a = if length (name_of names a) == 0 then service_text (service_at a) else name_of names a
 
@@ -51,7 +51,7 @@ before_name name = if length name == 0 then [] else codes " "
 unfoldable pub routine_cells : List ℕ → List ℕ → List ℕ → List ℕ → List ℕ → List ℕ
 routine_cells blanks word address gap name = concat (blanks ∷ word ∷ address ∷ gap ∷ name ∷ [])
 
--- its address and name, behind a word
+-- its address and name, after a word
 abbrev pub routine_text : List ℕ → Names → ℕ → ℕ → List ℕ
 routine_text word names depth a =
     routine_cells (indent depth) word (hex_word a) (before_name (routine_name names a)) (routine_name names a)
@@ -59,7 +59,7 @@ routine_text word names depth a =
 unfoldable pub from_text : List ℕ → List ℕ → List ℕ
 from_text word digits = concat (word ∷ digits ∷ codes "\n" ∷ [])
 
--- where a JSR stands: the line of the source, or its address where none has it
+-- where a JSR is: the line of the source, or its address if no line has it
 abbrev pub place_text : Option Statement → ℕ → List ℕ
 place_text None a = from_text (codes " FROM ") (hex_word a)
 place_text (Some s) a = from_text (codes " FROM LINE ") (decimal s.line)
@@ -75,12 +75,12 @@ entered_row program depth visit =
 unfoldable pub spent_text : ℕ → ℕ → List ℕ
 spent_text steps cycles = concat (codes " STEPS=" ∷ decimal steps ∷ codes " CYCLES=" ∷ decimal cycles ∷ codes "\n" ∷ [])
 
--- the row of one that is left, or that the run ended in, behind so many steps and cycles of the run
+-- the row of a routine that is left, or that the run ended in, after so many steps and cycles of the run
 abbrev pub spent_row : List ℕ → Assembled → ℕ → ℕ → ℕ → Visit → List ℕ
 spent_row word program steps cycles depth visit =
     routine_text word program.names depth visit.begin ++ spent_text (steps - visit.steps) (cycles - visit.cycles)
 
--- a stack pointer leaves a routine, and the end of a run all of them
+-- whether a stack pointer leaves a routine; the end of a run leaves all of them
 abbrev pub is_within : Option ℕ → Visit → Bool
 is_within None visit = false
 is_within (Some s) visit = nat_lt s visit.s
@@ -89,14 +89,14 @@ abbrev pub word_of : Option ℕ → List ℕ
 word_of None = codes "OPEN "
 word_of (Some s) = codes "BACK "
 
--- of routines in one another, from a depth on, the rows of those that are left, the innermost first
+-- for nested routines, from a depth on, the rows of those that are left, the innermost first
 unfoldable pub left_rows : Option ℕ → Assembled → ℕ → ℕ → ℕ → List Visit → List ℕ
 left_rows s program steps cycles depth [] = []
 left_rows s program steps cycles depth (visit ∷ inner) =
     left_rows s program steps cycles (depth + 1) inner
     ++ (if is_within s visit then [] else spent_row (word_of s) program steps cycles depth visit)
 
--- the routines that are entered behind so many steps, and those with what the next step enters
+-- the routines that are entered after so many steps, and those with what the next step enters
 abbrev pub visits : (ℕ → World) → ℕ → List Visit
 visits worlds n = map (visit_of worlds) (entered worlds n)
 
@@ -108,7 +108,7 @@ abbrev pub call_row : Assembled → (ℕ → World) → ℕ → List ℕ
 call_row program worlds n =
     if is_call (worlds n) then entered_row program (length (entered worlds n)) (visit_of worlds (entry_at n (worlds n))) else []
 
--- and of what it leaves
+-- the rows of what it leaves
 abbrev pub back_rows : Assembled → (ℕ → World) → ℕ → List ℕ
 back_rows program worlds n =
     left_rows (Some (worlds (suc n)).registers.s) program (suc n) (worlds (suc n)).cycles 0 (visits_called worlds n)
@@ -124,7 +124,7 @@ call_tree program worlds end =
     call_rows program worlds end.steps
     ++ (left_rows None program end.steps end.world.cycles 0 (visits worlds end.steps) ++ cause_line end.cause)
 
--- the tree of a text's run with these keys waiting: of the run that `IsRun` speaks of, by the same code and start
+-- the tree of a text's run with these keys waiting: the run of `IsRun`, with the same code and start
 pub record IsCallTreeOf (text keys : List ℕ) (limit : ℕ) (free : Bool) (cause : Cause) (output : List ℕ) : Type 0 where
   pub program : Assembled
   pub is_program : IsProgramOf text program

@@ -1,5 +1,4 @@
--- What a trace shows: the chosen steps of a run, with what stands at PC before each and the registers behind it. This
--- project's profile.
+-- What a trace shows: the chosen steps of a run, with what is at PC before each and the registers after it. This project's profile.
 use Rattle.std.specs.Prelude.{◌≡◌, ℕ, zero, suc, ◌+◌, ◌-◌, nat_le, Bool, ◌&&◌, List, [], ◌++◌, length, take, codes, Option, Some, None, if◌then◌else◌}
 use Rattle.a2_text.specs.Digits.{hex_word}
 use Rattle.a2_opcode.specs.Listing.{listing}
@@ -20,7 +19,7 @@ use Rattle.a2_trace.specs.Choices.{is_chosen}
 abbrev pub service_line : Service → ℕ → List ℕ
 service_line service a = hex_word a ++ (codes "-              " ++ service_name service)
 
--- what stands at an address with these bytes: a service that is called there, or else an instruction
+-- what is at an address with these bytes: a service that is called there, or else an instruction
 unfoldable pub standing : ℕ → List ℕ → List ℕ
 standing a bytes =
     elim (service_at a) [
@@ -31,22 +30,22 @@ standing a bytes =
 abbrev pub at_pc : World → List ℕ
 at_pc world = standing world.registers.pc (bytes_at world.memory world.registers.pc)
 
--- a text with blanks behind it up to 34 places
+-- a text with blanks after it, up to 34 columns
 abbrev pub padded : List ℕ → List ℕ
 padded text = text ++ take (34 - length text) (codes "                                  ")
 
--- the line of a step by its number since the start: what stood at PC, and the register line behind it
+-- the line of a step by its number since the start: what was at PC, and the register line after it
 abbrev pub step_line : World → World → ℕ → List ℕ
 step_line before after count = padded (at_pc before) ++ register_line after.registers count after.cycles
 
--- of so many first steps, how many are chosen
+-- how many of so many first steps are chosen
 unfoldable pub count_chosen : Choice → Code → World → ℕ → ℕ
 count_chosen choice code start zero = 0
 count_chosen choice code start (suc n) =
     count_chosen choice code start n
     + (if is_chosen choice (n + 1) (world_at code start n) (world_at code start (suc n)) then 1 else 0)
 
--- the line of a step, where it is chosen and as many chosen ones stand before it as are left out
+-- the line of a step, if it is chosen and as many chosen ones are before it as are left out
 abbrev pub shown_line : Choice → ℕ → Code → World → ℕ → List ℕ
 shown_line choice skip code start n =
     if is_chosen choice (n + 1) (world_at code start n) (world_at code start (suc n)) && nat_le skip (count_chosen choice code start n)
@@ -57,7 +56,7 @@ abbrev pub step_lines : Choice → ℕ → Code → World → ℕ → List ℕ
 step_lines choice skip code start zero = []
 step_lines choice skip code start (suc n) = step_lines choice skip code start n ++ shown_line choice skip code start n
 
--- how many chosen steps are left out, where only so many of the last are asked for
+-- how many chosen steps are left out, if only so many of the last are asked for
 abbrev pub left_out : Option ℕ → ℕ → ℕ
 left_out None count = 0
 left_out (Some last) count = count - last
@@ -74,7 +73,7 @@ pub record IsTrace (choice : Choice) (code : Code) (start : World) (limit : ℕ)
   pub cause_is : cause ≡ end.cause
   pub output_is : output ≡ trace choice code start end
 
--- the trace of a text's run with these keys waiting: of the run that `IsRun` speaks of, by the same code and start
+-- the trace of a text's run with these keys waiting: the run of `IsRun`, with the same code and start
 pub record IsTraceOf (choice : Choice) (text keys : List ℕ) (limit : ℕ) (free : Bool) (cause : Cause) (output : List ℕ) : Type 0 where
   pub program : Assembled
   pub is_program : IsProgramOf text program

@@ -1,4 +1,4 @@
--- What calls that make steps answer. No public clause cites this file.
+-- What calls that execute steps return. No public clause cites this file.
 use Rattle.std.specs.Prelude.{◌≡◌, ℕ, zero, suc, ◌+◌, ◌/◌, ◌%◌, Bool, ◌&&◌, List, [], ◌∷◌, ◌++◌, codes, Option, Some, None, Result, Ok, Err}
 use Rattle.std.specs.List.{concat}
 use Rattle.a2_text.specs.Digits.{hex_pair, hex_word}
@@ -17,7 +17,8 @@ use Rattle.a2_asm.specs.Assembled.{Assembled}
 use Rattle.a2_run.specs.Meaning.{code_of_run, start_of_run}
 use Rattle.a2_trace.specs.Trace.{count_chosen, left_out, step_lines}
 
--- a step was made, and this says whether it is near and stores where it is asked for; or a cause forbids it, and nothing was done
+-- a step was executed, and this says whether it is near and stores in the span that is asked for; or a cause forbids it, and
+-- nothing was done
 abbrev pub MakesStep : Bool → Option Span → Device → Device → Result Bool Cause → Type 0
 MakesStep near stores old new (Ok chosen) =
     (None ≡ cause_of old.state) × IsStep old new
@@ -30,19 +31,19 @@ pub record IsCountOf (choice : Choice) (code : Code) (start : World) (limit coun
   pub is_end : IsEnd code start limit end
   pub count_is : count ≡ count_chosen choice code start end.steps
 
--- a run with a limit ends by this cause, and these are its lines where so many chosen ones are left out
+-- a run with a limit ends by this cause, and these are its lines if so many chosen ones are left out
 pub record AreLines (choice : Choice) (skip : ℕ) (code : Code) (start : World) (limit : ℕ) (cause : Cause) (output : List ℕ) : Type 0 where
   pub end : End
   pub is_end : IsEnd code start limit end
   pub cause_is : cause ≡ end.cause
   pub output_is : output ≡ step_lines choice skip code start end.steps ++ cause_line end.cause
 
--- these lines went out; or a front of them, and a write failed
+-- these lines were written; or a front of them, and a write failed
 abbrev pub Traces : Choice → ℕ → Code → World → ℕ → Taker → Taker → Result Cause WriteFault → Type 0
 Traces choice skip code start limit old new (Ok cause) = (output : List ℕ) × AreLines choice skip code start limit cause output × Sends old new output
 Traces choice skip code start limit old new (Err _) = (cause : Cause) × (output : List ℕ) × AreLines choice skip code start limit cause output × Breaks old new output
 
--- so many chosen steps of a program's run stand before the last that are asked for
+-- so many chosen steps of a program's run are before the last ones that are asked for
 pub record IsLeftOut (program : Assembled) (keys : List ℕ) (limit : ℕ) (free : Bool) (choice : Choice) (skip : ℕ) : Type 0 where
   pub end : End
   pub is_end : IsEnd (code_of_run free program) (start_of_run program keys) limit end
@@ -52,7 +53,7 @@ pub record IsLeftOut (program : Assembled) (keys : List ℕ) (limit : ℕ) (free
 abbrev pub decimal_pair : ℕ → List ℕ
 decimal_pair n = (48 + n / 10) ∷ (48 + n % 10) ∷ []
 
--- two digits of each of so many first numbers, one after another
+-- the two digits of each of so many first numbers, one after another
 abbrev pub pairs : (ℕ → List ℕ) → ℕ → List ℕ
 pairs pair zero = []
 pairs pair (suc n) = pairs pair n ++ pair n

@@ -8,18 +8,16 @@ ghost use Rattle.a2_asm.specs.Entries.{entries};
 ghost use Rattle.a2_asm.specs.Programs.{begins_at as begins_at_of};
 ghost use Rattle.a2_machine.specs.Output.{cause_line};
 ghost use Rattle.a2_machine.specs.State.{code_of, world_of_state};
-ghost use Rattle.a2_run.specs.Answers.{Answers, OfSource, is_read_fault};
-ghost use Rattle.a2_run.specs.Meaning.{IsRefused};
+ghost use Rattle.a2_run.specs.Answers.{Answers, is_read_fault};
 ghost use Rattle.a2_trace.specs.Called.{Draws, begun};
 ghost use Rattle.a2_trace.specs.Calls as tree;
 ghost use Rattle.a2_trace.specs.Calls.{IsCallTreeOf};
 
 use crate::trace::put_end;
 use a2_asm::{Names, Program, Statement};
-use a2_bus::Keys;
 use a2_machine::{Cause, Machine};
 use a2_profile::name_of;
-use a2_run::{RunFault, program_of, started};
+use a2_run::{AssembledText, RunArgs, RunFault, started};
 use a2_services::service_at;
 use a2_stream::{Output, WriteFault, put_all};
 use a2_symbols::is_call;
@@ -30,7 +28,7 @@ use std::alloc::Allocator;
 // A routine that was entered and not left.
 #[derive(Clone, Copy, Default, Drop)]
 pub(crate) struct Visit {
-    // Where its JSR stands.
+    // The address of the JSR that called it.
     caller: u16,
     // Where it begins.
     begin: u16,
@@ -42,12 +40,12 @@ pub(crate) struct Visit {
     cycles: u64,
 }
 
-// As many as there are stack pointers, each below that of the one around it.
+// There are at most as many as there are stack pointers, because each has a lower one than the routine around it.
 type Visits = ArrayVec<Visit, 256>;
 
 const BLANKS: &[u8] = b"                                                                ";
 
-// What stands before a row.
+// Returns the indentation of a row.
 fn indent(depth: usize) -> &'static [u8]
     requires { depth ≤ 256 }
     ensures { result.now ≡ tree.indent depth }
@@ -55,7 +53,7 @@ fn indent(depth: usize) -> &'static [u8]
     &BLANKS[..(2 * depth).min(64)]
 }
 
-// The name of a routine, or nothing.
+// Returns the name of a routine, or nothing.
 fn routine_name<A: Allocator>(names: &Names<A>, address: u16) -> &[u8]
     ensures { result.now ≡ tree.routine_name (entries names.now) address }
 {
@@ -69,7 +67,7 @@ fn routine_name<A: Allocator>(names: &Names<A>, address: u16) -> &[u8]
     }
 }
 
-// What stands before a name.
+// Returns what is before a name.
 fn before_name(name: &[u8]) -> &'static [u8]
     ensures { result.now ≡ tree.before_name name.now }
 {
@@ -115,14 +113,14 @@ fn put_routine<A: Allocator, W: Output>(
     )
 }
 
-// Whether a statement is an instruction that begins at an address.
+// Returns whether a statement is an instruction that begins at an address.
 fn begins_at(statement: &Statement, address: u16) -> bool
     ensures { result ≡ begins_at_of address statement.now }
 {
     statement.addr == address && statement.instr.is_some()
 }
 
-// The instruction that begins at an address.
+// Returns the instruction that begins at an address.
 fn instruction_at(statements: &[Statement], address: u16) -> Option<Statement>
     ensures { result ≡ find (begins_at_of address) statements.now }
 {
@@ -146,7 +144,7 @@ fn put_from<'a, W: Output>(
     put_all(&[word, digits, b"\n"], writer)
 }
 
-// Writes where a JSR stands.
+// Writes where a JSR is.
 fn put_caller<W: Output>(
     statements: &[Statement],
     address: u16,
@@ -197,7 +195,7 @@ fn put_spent<W: Output>(steps: u64, cycles: u64, writer: &mut W) -> Result<(), W
     )
 }
 
-// Whether a routine goes on where the stack pointer is this; at the end of a run none does.
+// Returns whether a routine continues at this stack pointer; at the end of a run none does.
 fn is_within(s: Option<u8>, visit: &Visit) -> bool
     ensures { result ≡ tree.is_within s visit.now }
 {
@@ -207,7 +205,7 @@ fn is_within(s: Option<u8>, visit: &Visit) -> bool
     }
 }
 
-// The word of the rows of those that do not.
+// Returns the first word of the rows of routines that do not continue.
 fn word_of(s: Option<u8>) -> &'static [u8]
     ensures { result.now ≡ tree.word_of s }
 {
@@ -217,7 +215,7 @@ fn word_of(s: Option<u8>) -> &'static [u8]
     }
 }
 
-// Writes the row of a routine that does not go on.
+// Writes the row of a routine that does not continue.
 #[tactic(auto, using(a2_stream::proofs::Joined::broke_off, a2_stream::proofs::Joined::went_on))]
 fn put_back<A: Allocator, B: Allocator, W: Output>(
     s: Option<u8>,
@@ -242,7 +240,7 @@ fn put_back<A: Allocator, B: Allocator, W: Output>(
     )
 }
 
-// Writes the rows of those routines that do not go on, the innermost first.
+// Writes the rows of those routines that do not continue, the innermost first.
 fn put_left<A: Allocator, B: Allocator, W: Output>(
     s: Option<u8>,
     program: &Program<B>,
@@ -260,7 +258,8 @@ fn put_left<A: Allocator, B: Allocator, W: Output>(
     Ok(())
 }
 
-// Enters a routine where the last step of a machine was a JSR at an address, before which the stack pointer was this; its row.
+// Enters a routine, and writes its row, if the last step of a machine was a JSR at `caller`, before which the stack pointer was
+// `s`.
 fn enter_where<A: Allocator, B: Allocator, W: Output>(
     is_jsr: bool,
     caller: u16,
@@ -299,7 +298,7 @@ fn leave<A: Allocator>(machine: &Machine<A>, visits: &mut Visits)
     visits.retain(|visit| s < visit.s);
 }
 
-// Writes the rows of what the last step of a machine entered and left, and enters and leaves it.
+// Enters and leaves what the last step of a machine entered and left, and writes the rows.
 #[tactic(auto, using(a2_stream::proofs::Joined::broke_off, a2_stream::proofs::Joined::went_on))]
 fn put_step<A: Allocator, B: Allocator, W: Output>(
     is_jsr: bool,
@@ -325,7 +324,7 @@ fn put_step<A: Allocator, B: Allocator, W: Output>(
     Ok(())
 }
 
-// Writes the rows of the routines that a run ended in, and the cause line, and answers the cause.
+// Writes the rows of the routines that a run ended in, and the cause line. Returns the cause.
 #[tactic(auto, using(a2_stream::proofs::Joined::broke_off, a2_stream::proofs::Joined::went_on))]
 fn put_open<A: Allocator, B: Allocator, W: Output>(
     cause: Cause,
@@ -343,7 +342,7 @@ fn put_open<A: Allocator, B: Allocator, W: Output>(
     put_end(cause, writer)
 }
 
-// Makes the steps of a run from a machine's start, and writes its tree.
+// Runs a machine from its start, and writes its tree.
 fn draw_run<A: Allocator, B: Allocator, W: Output>(
     machine: &mut Machine<A>,
     limit: u32,
@@ -375,26 +374,23 @@ fn draw_run<A: Allocator, B: Allocator, W: Output>(
     put_open(cause, program, machine, &visits, writer)
 }
 
-/// Assembles and runs a source with these keys waiting, and writes its routines as a tree: a row where a JSR enters one, with its
-/// address and name, and where the JSR stands; and a row where it is left, with the steps and cycles since, those of what it
-/// calls among them; at the end of the run such a row of each that was not left; then the cause line. Which routines there are
-/// [`a2_symbols::enter`] and [`a2_symbols::leave`] say; a service that is called is one. Each row is two blanks further right than that of the routine around
-/// it, up to 64. `limit` is the most steps, `free` runs without the guard. The cause is that of the run's end. Refused where the
-/// source is, where a write fails, and for want of memory. This project's profile.
+/// Runs a source and writes its routines as a tree: a row where a JSR enters one, with its address and name, and where the JSR stands;
+/// and a row where it is left, with the steps and cycles since, including those of what it calls. At the end of the run there is such
+/// a row for each routine that was not left, and then the cause line. [`a2_symbols::enter`] and [`a2_symbols::leave`] say which
+/// routines there are; a service that is called is one. Each row is indented by two blanks more than that of the routine around it,
+/// up to 64. Returns the cause of the run's end. Fails if a write fails, or if there is not enough memory. This project's profile.
 pub fn trace_calls<A: Allocator + Copy, W: Output>(
     alloc: A,
-    source: &[u8],
-    keys: &Keys,
-    limit: u32,
-    free: bool,
+    assembled: &AssembledText<'_, A>,
+    run: RunArgs<'_>,
     writer: &mut W,
 ) -> Result<Cause, RunFault>
-    ensures meaning { Answers (OfSource (IsRefused source.now)) (IsCallTreeOf source.now keys.now limit free)
+    ensures meaning { Answers (λ _. ⊥) (IsCallTreeOf assembled.now.text run.entry.keys.now run.entry.limit run.entry.free)
         (W.taker writer.old) (W.taker writer.new) result }
     ensures no_reader { is_read_fault result ≡ false }
 {
-    let program = program_of(alloc, source)?;
-    let mut machine = started(alloc, &program, keys, free)?;
-    let cause = draw_run(&mut machine, limit, &program, writer)?;
+    let program = assembled.program();
+    let mut machine = started(alloc, program, run.keys, run.free)?;
+    let cause = draw_run(&mut machine, run.limit, program, writer)?;
     Ok(cause)
 }

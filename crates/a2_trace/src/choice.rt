@@ -15,22 +15,22 @@ use a2_services::service_at;
 use a2_symbols::Span;
 use std::alloc::Allocator;
 
-/// Which steps of a run are shown: those of which all holds.
+/// Which steps of a run are shown: those that meet all these conditions.
 #[derive(Clone, Copy, Debug)]
 pub struct Choice {
-    /// The number of the first, which counts as STEPS does: from 0 and from 1 on it is each.
+    /// The number of the first step, which counts as STEPS does: 0 and 1 both mean every step.
     pub from: u32,
-    /// Of those that are chosen by all else only so many of the last.
+    /// Only so many of the last steps that meet all other conditions.
     pub last: Option<u32>,
-    /// PC stands in it before the step.
+    /// PC is in this span before the step.
     pub only: Option<Span>,
-    /// The step stores in it. An instruction does by each store and push, also of the byte that is there; of a service
-    /// those bytes count that are others behind it.
+    /// The step stores in this span. For an instruction this is each store and push, even of the byte that was there; for a
+    /// service, the bytes that differ afterwards.
     pub stores: Option<Span>,
 }
 
 impl Choice {
-    /// All steps.
+    /// Chooses all steps.
     pub fn all() -> Choice
         ensures { result ≡ choices.all_steps }
     {
@@ -43,14 +43,14 @@ impl Choice {
     }
 }
 
-// Whether an address lies in a span.
+// Returns whether an address is in a span.
 fn is_in(span: Span, address: u16) -> bool
     ensures { result ≡ choices.is_in span address }
 {
     span.first <= address && address <= span.last
 }
 
-// Whether the next step is not before the first, and has PC where it is asked for.
+// Returns whether the next step is not before the first, and has PC in the span that is asked for.
 pub(crate) fn is_near<A: Allocator>(choice: &Choice, machine: &Machine<A>) -> bool
     ensures { result ≡ choices.is_near choice.now (machine.now.state.steps + 1) (world_of_state machine.now.state) }
 {
@@ -63,21 +63,21 @@ pub(crate) fn is_near<A: Allocator>(choice: &Choice, machine: &Machine<A>) -> bo
     }
 }
 
-/// The byte of RAM at an address, or 0.
+/// Returns the byte of RAM at an address, or 0.
 pub(crate) fn byte_at<A: Allocator>(machine: &Machine<A>, address: u16) -> u8
     ensures { result ≡ bytes.byte_at (memory_of machine.now.state.bus) address }
 {
     machine.peek(address).unwrap_or(0)
 }
 
-// Whether two machines have different bytes at an address.
+// Returns whether two machines have different bytes at an address.
 fn is_other_at<A: Allocator, B: Allocator>(old: &Machine<A>, new: &Machine<B>, address: u16) -> bool
     ensures { result ≡ choices.is_other_at (memory_of old.now.state.bus) (memory_of new.now.state.bus) address }
 {
     byte_at(old, address) != byte_at(new, address)
 }
 
-// Whether two machines have different bytes at an address of a span.
+// Returns whether two machines have different bytes at an address in a span.
 #[tactic(auto, using(crate::proofs::Storing::differ_next, crate::proofs::Storing::differ_none))]
 fn differ<A: Allocator, B: Allocator>(old: &Machine<A>, new: &Machine<B>, span: Span) -> bool
     ensures { result ≡ choices.differ_from (memory_of old.now.state.bus) (memory_of new.now.state.bus) span.first
@@ -91,7 +91,7 @@ fn differ<A: Allocator, B: Allocator>(old: &Machine<A>, new: &Machine<B>, span: 
     false
 }
 
-// Makes the call of a service, before which `was` is put where the machine stands, and says whether it stores in a span.
+// Calls a service, after `was` is made equal to the machine. Returns whether the call stores in a span.
 fn make_call<A: Allocator>(
     machine: &mut Machine<A>,
     was: &mut Machine<A>,
@@ -107,7 +107,7 @@ fn make_call<A: Allocator>(
     }
 }
 
-// Whether one of some addresses lies in a span.
+// Returns whether one of some addresses is in a span.
 fn is_any_in(span: Span, addresses: &[u16]) -> bool
     ensures { result ≡ list_any (choices.is_in span) addresses.now }
 {
@@ -119,7 +119,7 @@ fn is_any_in(span: Span, addresses: &[u16]) -> bool
     false
 }
 
-// Does an instruction, and says whether it stores in a span.
+// Executes an instruction. Returns whether it stores in a span.
 fn make_instruction<A: Allocator>(machine: &mut Machine<A>, span: Span) -> Result<bool, Cause>
     requires { is_some (service_at_of machine.old.state.regs.pc) ≡ false }
     ensures { MakesStep true (Some span) machine.old machine.new result }
@@ -133,7 +133,7 @@ fn make_instruction<A: Allocator>(machine: &mut Machine<A>, span: Span) -> Resul
     }
 }
 
-// Makes a step, and says whether it stores in a span.
+// Executes a step. Returns whether it stores in a span.
 fn make_storing<A: Allocator>(
     machine: &mut Machine<A>,
     was: &mut Machine<A>,
@@ -147,7 +147,7 @@ fn make_storing<A: Allocator>(
     }
 }
 
-// Makes a step of which nothing is asked for but what this says, which is answered.
+// Executes a step without a test of its stores. Returns `near`.
 fn make_any<A: Allocator>(machine: &mut Machine<A>, near: bool) -> Result<bool, Cause>
     ensures { MakesStep near None machine.old machine.new result }
 {
@@ -157,7 +157,7 @@ fn make_any<A: Allocator>(machine: &mut Machine<A>, near: bool) -> Result<bool, 
     }
 }
 
-// Makes a step, and says whether it is near and stores where it is asked for; or the cause that forbids it.
+// Executes a step. Returns whether it is near and stores in the span that is asked for, or the cause that forbids it.
 #[inline(always)]
 pub(crate) fn make_step<A: Allocator>(
     machine: &mut Machine<A>,

@@ -1,4 +1,4 @@
-//! What stands before the registers of a line.
+//! What is before the registers in a line.
 
 ghost use Rattle.std.specs.Prelude.{◌≡◌, ◌≤◌};
 ghost use Rattle.arrayvec.specs.ArrayVec.{array_vec_len};
@@ -11,16 +11,16 @@ use arrayvec::ArrayVec;
 
 const BLANKS: &[u8] = b"                                  ";
 
-/// A text of 34 places.
+/// A text of 34 columns.
 pub(crate) type Front = [u8; 34];
 
-/// The front where nothing stands.
+/// The front of a line if nothing is there.
 pub(crate) const BLANK: Front = [b' '; 34];
 
 // A front while it is spelt.
 type Spelling = ArrayVec<u8, 34>;
 
-// What stands at an address with these bytes.
+// Returns what is at an address with these bytes.
 #[tactic(auto, unfolding(crate::specs::Trace::standing))]
 fn standing(address: u16, bytes: [u8; 3]) -> Spelling
     ensures text { result.items ≡ trace.standing address bytes }
@@ -41,7 +41,7 @@ fn standing(address: u16, bytes: [u8; 3]) -> Spelling
     front
 }
 
-// The same with blanks behind it.
+// The same, with blanks after it.
 fn front_of(address: u16, bytes: [u8; 3]) -> Front
     ensures { result ≡ trace.padded (trace.standing address bytes) }
 {
@@ -75,21 +75,21 @@ impl Kept {
     }
 }
 
-/// Fronts that were spelt, one for each low byte of an address: so those of a loop are spelt once.
+/// Fronts that were spelt, one for each low byte of an address, so that those of a loop are spelt once.
 #[derive(Drop)]
 pub(crate) struct Fronts {
     kept: [Kept; 256],
 }
 
 impl Fronts {
-    /// Those of the addresses $0000 with nothing there.
+    /// All fronts are those of the address $0000 with nothing there.
     pub(crate) fn new() -> Fronts {
         Fronts {
             kept: [Kept::new(0, [0; 3]); 256],
         }
     }
 
-    /// The front of a line, where these bytes stand at an address.
+    /// Returns the front of a line for these bytes at an address.
     pub(crate) fn front(&mut self, address: u16, bytes: [u8; 3]) -> &Front
         ensures { result.now ≡ trace.padded (trace.standing address bytes) }
     {

@@ -1,6 +1,6 @@
-//! The trace of a source's run: a line for each step that is chosen, or its routines as a tree.
+//! Traces a source's run: a line for each chosen step, or its routines as a tree.
 //!
-//! How it is called is shown in CALLING.md.
+//! CALLING.md shows how to call it.
 #![tactic(auto)]
 
 mod calls;

@@ -9,7 +9,7 @@ ghost use Rattle.a2_trace.specs.Traced as spelt;
 use a2_cpu::Regs;
 use std::marker::Model;
 
-// The most bytes of a line.
+// The greatest length of a line in bytes.
 const ROOM: usize = 128;
 
 // The two capital hexadecimal digits of each byte, one after another.
@@ -29,7 +29,7 @@ fn hex_pairs() -> &'static [u8; 512]
       "
 }
 
-// The two capital hexadecimal digits of a byte.
+// Returns the two capital hexadecimal digits of a byte.
 #[inline(always)]
 fn hex_pair(byte: u8) -> [u8; 2]
     ensures { result ≡ digits.hex_pair byte }
@@ -53,7 +53,7 @@ fn decimal_pairs() -> &'static [u8; 200]
       "
 }
 
-// The two decimal digits of a number below 100.
+// Returns the two decimal digits of a number below 100.
 #[inline(always)]
 fn decimal_pair(number: u8) -> [u8; 2]
     requires { number < 100 }
@@ -64,8 +64,8 @@ fn decimal_pair(number: u8) -> [u8; 2]
     [decimals[place], decimals[place + 1]]
 }
 
-/// The fields of a register line up to the steps: what stands between the digits, and those of A, X, Y, the flags as they are
-/// pushed, S and PC.
+/// Returns the fields of a register line up to the steps: A, X, Y, the flags as they are pushed, S and PC, with the texts between
+/// their digits.
 #[inline(always)]
 #[tactic(auto, unfolding(crate::specs::Traced::fields))]
 pub(crate) fn fields(regs: Regs) -> [u8; 39]
@@ -85,7 +85,8 @@ pub(crate) fn fields(regs: Regs) -> [u8; 39]
     ]
 }
 
-/// At most 128 bytes, which grow at their front: so the digits of a number go where they stay. Contracts see the bytes.
+/// At most 128 bytes, which grow at their front, so that the digits of a number are written where they stay. Contracts see the
+/// bytes.
 #[derive(Drop)]
 pub(crate) struct Line {
     bytes: [u8; ROOM],
@@ -103,7 +104,7 @@ impl Model for Line {
 }
 
 impl Line {
-    /// An empty line.
+    /// Returns an empty line.
     #[inline(always)]
     pub(crate) fn new() -> Line
         ensures { result ≡ [] }
@@ -114,7 +115,7 @@ impl Line {
         }
     }
 
-    /// The bytes of the line.
+    /// Returns the bytes of the line.
     #[inline(always)]
     pub(crate) fn as_slice(&self) -> &[u8]
         ensures { result.now ≡ self.now }

@@ -6,8 +6,7 @@ ghost use Rattle.a2_bus.specs.View.{memory_of};
 ghost use Rattle.a2_effect.specs.View.{registers_of};
 ghost use Rattle.a2_machine.specs.Output.{register_line, cause_line};
 ghost use Rattle.a2_machine.specs.State.{code_of, world_of_state};
-ghost use Rattle.a2_run.specs.Answers.{Answers, OfSource, is_read_fault};
-ghost use Rattle.a2_run.specs.Meaning.{IsRefused};
+ghost use Rattle.a2_run.specs.Answers.{Answers, is_read_fault};
 ghost use Rattle.a2_trace.specs.Bytes as bytes;
 ghost use Rattle.a2_trace.specs.Trace as trace;
 ghost use Rattle.a2_trace.specs.Trace.{IsTraceOf};
@@ -17,13 +16,12 @@ use crate::choice::{Choice, byte_at, is_near, make_step};
 use crate::front::{BLANK, Front, Fronts};
 use crate::line::{Line, fields};
 use a2_asm::Program;
-use a2_bus::Keys;
 use a2_machine::{Cause, Machine, write_cause};
-use a2_run::{RunFault, program_of, started};
+use a2_run::{AssembledText, RunArgs, RunFault, started};
 use a2_stream::{Output, WriteFault, put};
 use std::alloc::{AllocError, Allocator};
 
-// The bytes of the instruction at an address, if one is there.
+// Returns the bytes of the instruction at an address, if there is one.
 fn bytes_at<A: Allocator>(machine: &Machine<A>, address: u16) -> [u8; 3]
     ensures { result ≡ bytes.bytes_at (memory_of machine.now.state.bus) address }
 {
@@ -34,7 +32,7 @@ fn bytes_at<A: Allocator>(machine: &Machine<A>, address: u16) -> [u8; 3]
     ]
 }
 
-// Spells the line of a step: what stood at PC before it, and the registers behind it.
+// Spells the line of a step: what was at PC before it, and the registers after it.
 #[tactic(auto, unfolding(a2_machine::specs::Output::line_of_digits))]
 #[inline(always)]
 fn spell<A: Allocator>(line: &mut Line, front: &Front, machine: &Machine<A>)
@@ -50,7 +48,7 @@ fn spell<A: Allocator>(line: &mut Line, front: &Front, machine: &Machine<A>)
     line.put_text(front);
 }
 
-// Writes the cause line, and answers the cause.
+// Writes the cause line. Returns the cause.
 pub(crate) fn put_end<W: Output>(cause: Cause, writer: &mut W) -> Result<Cause, WriteFault>
     ensures line { SendsOrBreaks (W.taker writer.old) (W.taker writer.new) result (cause_line cause) }
     ensures cause { IfOk result (λ told. told ≡ cause) }
@@ -59,7 +57,7 @@ pub(crate) fn put_end<W: Output>(cause: Cause, writer: &mut W) -> Result<Cause, 
     Ok(cause)
 }
 
-// The front of the next step's line, where it may be shown.
+// Returns the front of the next step's line, if that may be shown.
 fn front_where<'a, A: Allocator>(
     near: bool,
     late: bool,
@@ -76,7 +74,7 @@ fn front_where<'a, A: Allocator>(
     }
 }
 
-// Writes the line of a step, where it is shown.
+// Writes the line of a step, if it is shown.
 fn put_where<A: Allocator, W: Output>(
     chosen: bool,
     late: bool,
@@ -97,7 +95,7 @@ fn put_where<A: Allocator, W: Output>(
     }
 }
 
-// Makes the steps of a run, and counts those that are chosen. `was` is any machine.
+// Executes the steps of a run. Returns how many of them are chosen. `was` is any machine.
 fn count_chosen<A: Allocator>(
     machine: &mut Machine<A>,
     was: &mut Machine<A>,
@@ -115,12 +113,12 @@ fn count_chosen<A: Allocator>(
             Err(_) => return count,
         }
     }
-    // For the prover alone: a run of no more steps ends here, by whatever cause.
+    // For the prover alone: a run of no further steps ends here, for whatever cause.
     let _ = machine.run(0);
     count
 }
 
-// Makes the steps of a run, and writes a line of each that is chosen, but for the first so many; and then the cause line.
+// Executes the steps of a run, and writes a line for each that is chosen, except the first `skip`; then writes the cause line.
 fn trace_run<A: Allocator, W: Output>(
     machine: &mut Machine<A>,
     was: &mut Machine<A>,
@@ -150,47 +148,43 @@ fn trace_run<A: Allocator, W: Output>(
     put_end(cause, writer)
 }
 
-// How many chosen steps of a run are left out, so that no more are shown than are asked for.
+// Returns how many chosen steps of a run are left out, so that no more are shown than asked for.
 fn left_out<A: Allocator + Copy>(
     alloc: A,
     program: &Program<A>,
-    keys: &Keys,
-    limit: u32,
-    free: bool,
+    run: RunArgs<'_>,
     choice: &Choice,
 ) -> Result<u64, AllocError>
-    ensures { IfOk result (λ skip. IsLeftOut program.now keys.now limit free choice.now skip) }
+    ensures { IfOk result (λ skip. IsLeftOut program.now run.entry.keys.now run.entry.limit run.entry.free choice.now skip) }
 {
     let Some(last) = choice.last else {
         return Ok(0);
     };
     // For the prover alone: a law of every program, by which the guarded bytes run as its statements.
     program.is_sound();
-    let mut machine = started(alloc, program, keys, free)?;
+    let mut machine = started(alloc, program, run.keys, run.free)?;
     let mut was = Machine::for_copies(alloc)?;
-    Ok(count_chosen(&mut machine, &mut was, limit, choice).saturating_sub(u64::from(last)))
+    Ok(count_chosen(&mut machine, &mut was, run.limit, choice).saturating_sub(u64::from(last)))
 }
 
-/// Assembles and runs a source with these keys waiting, and writes its trace: for each step that is chosen what stands at PC, as
-/// in a listing, and the register line behind the step; then the cause line. `limit` is the most steps, `free` runs without
-/// the guard. The cause is that of the run's end. No line is kept: where only the last are asked for the run is made twice.
-/// Refused where the source is, where a write fails, and for want of memory. This project's profile.
+/// Runs a source and writes its trace: for each chosen step what is at PC, as in a listing, and the register line after the step;
+/// then the cause line. Returns the cause of the run's end. No line is kept: if only the last ones are asked for, the source is run
+/// twice. Fails if a write fails, or if there is not enough memory. This project's profile.
 pub fn trace_source<A: Allocator + Copy, W: Output>(
     alloc: A,
-    source: &[u8],
-    keys: &Keys,
-    limit: u32,
-    free: bool,
+    assembled: &AssembledText<'_, A>,
+    run: RunArgs<'_>,
     choice: &Choice,
     writer: &mut W,
 ) -> Result<Cause, RunFault>
-    ensures meaning { Answers (OfSource (IsRefused source.now)) (IsTraceOf choice.now source.now keys.now limit free)
+    ensures meaning { Answers (λ _. ⊥) (IsTraceOf choice.now assembled.now.text run.entry.keys.now run.entry.limit run.entry.free)
         (W.taker writer.old) (W.taker writer.new) result }
     ensures no_reader { is_read_fault result ≡ false }
 {
-    let program = program_of(alloc, source)?;
-    let skip = left_out(alloc, &program, keys, limit, free, choice)?;
-    let mut machine = started(alloc, &program, keys, free)?;
+    let program = assembled.program();
+    let skip = left_out(alloc, program, run, choice)?;
+    let RunArgs { keys, limit, free } = run;
+    let mut machine = started(alloc, program, keys, free)?;
     let mut was = Machine::for_copies(alloc)?;
     let cause = trace_run(&mut machine, &mut was, limit, choice, skip, writer)?;
     Ok(cause)

@@ -11,8 +11,8 @@ use Rattle.a2_tty.specs.declared.session.fault.TalkFault.{TalkFault}
 use Rattle.a2_tty.specs.declared.session.fault.TalkFault.TheVariants.{Read, Write, Endless}
 use Rattle.a2_tty.specs.declared.session.hearing.Heard.{Heard}
 use Rattle.a2_tty.specs.declared.session.hearing.Heard.TheVariants.{Line, Long, End}
-use Rattle.a2_tty.specs.Hearing.{Loses, IsHeard, IsTextOf}
-use Rattle.a2_tty.specs.Turns.{RepliesTo, MeetsOr, AreAnswered, Told, IsTalk, IsQuit, closing}
+use Rattle.a2_tty.specs.LineReading.{Loses, IsLineRead, IsTextOf}
+use Rattle.a2_tty.specs.Turns.{RepliesTo, MeetsOr, AreAnswered, AnsweredLines, IsTalk, IsQuit, closing}
 
 pub loses-nil : (a : Option (List ℕ)) → Loses a a []
 loses-nil None = tt
@@ -41,7 +41,7 @@ module _ {S : Type 0} (Meets : List ℕ → S → List ℕ → S → Type 0) (pr
 
   -- the lines so far were answered
   pub record SoFar (old here : S) (from now : Giver) (before after : Taker) : Type 0 where
-    pub told : Told Meets prompt old here from.bytes now.bytes
+    pub told : AnsweredLines Meets prompt old here from.bytes now.bytes
     pub sent : Sends before after told.output
     pub counted : now.failures ≡ from.failures
 
@@ -52,7 +52,7 @@ module _ {S : Type 0} (Meets : List ℕ → S → List ℕ → S → Type 0) (pr
     counted = refl;
   }
 
-  told-more : (old here new : S) (a b c : Option (List ℕ)) (line text : List ℕ) → Told Meets prompt old here a b → Loses b c (line ∷ []) → Meets line here text new → Told Meets prompt old new a c
+  told-more : (old here new : S) (a b c : Option (List ℕ)) (line text : List ℕ) → AnsweredLines Meets prompt old here a b → Loses b c (line ∷ []) → Meets line here text new → AnsweredLines Meets prompt old new a c
   told-more old here new a b c line text told loses meets = record {
     heard = told.heard ++ line ∷ [];
     read = loses-more a b c told.heard (line ∷ []) told.read loses;
@@ -92,7 +92,7 @@ module _ {S : Type 0} (Meets : List ℕ → S → List ℕ → S → Type 0) (pr
   endless-lines old here from now a b far = (now.bytes, far.told, [], Sends-then a b b far.told.output [] far.sent (Sends-nil b))
 
   -- the end of the input
-  end-told : (old here : S) (a b c : Option (List ℕ)) → Told Meets prompt old here a b → Loses b c [] → Told Meets prompt old here a c
+  end-told : (old here : S) (a b c : Option (List ℕ)) → AnsweredLines Meets prompt old here a b → Loses b c [] → AnsweredLines Meets prompt old here a c
   end-told old here a b c told loses = record {
     heard = told.heard ++ [];
     read = loses-more a b c told.heard [] told.read loses;
@@ -118,15 +118,15 @@ module _ {S : Type 0} (Meets : List ℕ → S → List ℕ → S → Type 0) (pr
   )
 
   pub heard-ended : (old here : S) (from now next : Giver) (a b c d : Taker) (heard : Heard) (kept text : List ℕ) → heard ≡ End → text ≡ closing prompt
-      → SoFar old here from now a b → Sends b c prompt → IsHeard now next heard kept → Sends c d text → IsTalk Meets prompt old here from next a d (Ok tt)
+      → SoFar old here from now a b → Sends b c prompt → IsLineRead now next heard kept → Sends c d text → IsTalk Meets prompt old here from next a d (Ok tt)
   heard-ended old here from now next a b c d heard kept text is told far prompted hears closes =
-      let (loses, end) = subst (λ h. IsHeard now next h kept) is hears in
+      let (loses, end) = subst (λ h. IsLineRead now next h kept) is hears in
       ended old here from now next a b c d far prompted loses end (subst (λ t. Sends c d t) told closes)
 
   pub heard-broke-end : (old here : S) (from now next : Giver) (a b c d : Taker) (heard : Heard) (kept text : List ℕ) → heard ≡ End → text ≡ closing prompt
-      → SoFar old here from now a b → Sends b c prompt → IsHeard now next heard kept → Breaks c d text → IsTalk Meets prompt old here from next a d (Err Write)
+      → SoFar old here from now a b → Sends b c prompt → IsLineRead now next heard kept → Breaks c d text → IsTalk Meets prompt old here from next a d (Err Write)
   heard-broke-end old here from now next a b c d heard kept text is told far prompted hears breaks =
-      let (loses, end) = subst (λ h. IsHeard now next h kept) is hears in
+      let (loses, end) = subst (λ h. IsLineRead now next h kept) is hears in
       broke-end old here from now next a b c d far prompted loses (subst (λ t. Breaks c d t) told breaks)
 
   -- a line that ends the session
@@ -135,9 +135,9 @@ module _ {S : Type 0} (Meets : List ℕ → S → List ℕ → S → Type 0) (pr
   quits old here from now next a b c quit far prompted is loses = inr (now.bytes, far.told, quit, is, loses, Sends-then a b c far.told.output prompt far.sent prompted)
 
   pub heard-quits : (old here : S) (from now next : Giver) (a b c : Taker) (heard : Heard) (kept : List ℕ) → heard ≡ Line → IsQuit kept
-      → SoFar old here from now a b → Sends b c prompt → IsHeard now next heard kept → IsTalk Meets prompt old here from next a c (Ok tt)
+      → SoFar old here from now a b → Sends b c prompt → IsLineRead now next heard kept → IsTalk Meets prompt old here from next a c (Ok tt)
   heard-quits old here from now next a b c heard kept is quit far prompted hears =
-      let (said, loses, texts) = subst (λ h. IsHeard now next h kept) is hears in
+      let (said, loses, texts) = subst (λ h. IsLineRead now next h kept) is hears in
       quits old here from now next a b c said far prompted (subst (λ l. IsQuit l) (sym texts.0) quit) loses
 
   -- writing an answer failed

@@ -17,7 +17,7 @@ use Rattle.a2_tty.specs.declared.session.hearing.Ending.{Ending}
 use Rattle.a2_tty.specs.declared.session.hearing.Ending.TheVariants.{Feed, Input}
 use Rattle.a2_tty.specs.declared.session.hearing.Heard.{Heard}
 use Rattle.a2_tty.specs.declared.session.hearing.Heard.TheVariants.{Line, Long, End}
-use Rattle.a2_tty.specs.Hearing.{Loses, IsPiece, IsHeard, IsTextOf}
+use Rattle.a2_tty.specs.LineReading.{Loses, IsPiece, IsLineRead, IsTextOf}
 
 abbrev pub Plain : List ℕ → Type 0
 Plain piece = All (λ c. eqb c 10 ≡ false) piece
@@ -153,7 +153,7 @@ end-came old now next kept buffer n far (low, came, end, counts) one none = reco
 
 -- the end of the input
 
-pub heard-end : (old new : Giver) (ending : Ending) (kept : List ℕ) → IsPiece old new ending kept → ending ≡ Input → kept ≡ [] → IsHeard old new End kept
+pub heard-end : (old new : Giver) (ending : Ending) (kept : List ℕ) → IsPiece old new ending kept → ending ≡ Input → kept ≡ [] → IsLineRead old new End kept
 heard-end old new Feed kept p is none = absurd (feed≢input is)
   where
     feed≢input : Feed ≡ Input → ⊥
@@ -174,18 +174,18 @@ said-loses old new Input kept p some =
     ]
 
 pub heard-line : (old new : Giver) (ending : Ending) (kept line : List ℕ) → IsPiece old new ending kept → ((ending ≡ Input) × (kept ≡ []) → ⊥) → line ≡ strip_carriage_return kept
-    → length line ≤ 255 → IsHeard old new Line line
+    → length line ≤ 255 → IsLineRead old new Line line
 heard-line old new ending kept line p some stripped few =
     let whole = kept-whole p.piece kept line p.front stripped few in
     (line, subst (λ l. Loses old.bytes new.bytes (l ∷ [])) whole (said-loses old new ending kept p some), (refl, few))
 
 pub heard-long : (old new : Giver) (ending : Ending) (kept line : List ℕ) → IsPiece old new ending kept → ((ending ≡ Input) × (kept ≡ []) → ⊥) → line ≡ strip_carriage_return kept
-    → 255 < length line → IsHeard old new Long line
+    → 255 < length line → IsLineRead old new Long line
 heard-long old new ending kept line p some stripped many =
     (strip_carriage_return p.piece, said-loses old new ending kept p some, kept-long p.piece kept line p.front stripped many)
 
 -- a line, if it is not the end of the input
-pub heard-some : (old new : Giver) (heard : Heard) (kept : List ℕ) → (heard ≡ End → ⊥) → IsHeard old new heard kept
+pub heard-some : (old new : Giver) (heard : Heard) (kept : List ℕ) → (heard ≡ End → ⊥) → IsLineRead old new heard kept
     → (said : List ℕ) × Loses old.bytes new.bytes (said ∷ []) × IsTextOf heard said kept
 heard-some old new Line kept other h = h
 heard-some old new Long kept other h = h

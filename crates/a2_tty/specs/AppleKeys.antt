@@ -25,8 +25,8 @@ abbrev pub arrow_of : ℕ → Stroke
 arrow_of letter = if letter == 0x43 then Key 0x15 else if letter == 0x44 then Key 0x08 else Nothing
 
 -- the meaning of a byte after the prefix, in upper or lower case; the prefix typed twice is its own key
-abbrev pub order_named : ℕ → Stroke
-order_named letter =
+abbrev pub session_command : ℕ → Stroke
+session_command letter =
     if letter == 0x51 then Order order.Quit else if letter == 0x50 then Order order.Pause else if letter == 0x53 then Order order.Step
     else if letter == 0x42 then Order order.Back else if (letter == 0x2B) || (letter == 0x3D) then Order order.Faster
     else if letter == 0x2D then Order order.Slower
@@ -34,7 +34,7 @@ order_named letter =
     else if letter == 0x44 then Order order.Debug else if letter == 0x4C then Order order.Redraw else if letter == 0x1D then Key 0x1D else Nothing
 
 abbrev pub order_of : ℕ → Stroke
-order_of byte = order_named (capital byte)
+order_of byte = session_command (capital byte)
 
 -- the bytes that a terminal sends for an arrow: ESC, [ or O, and A to D
 abbrev pub is_arrow : ℕ → ℕ → ℕ → Bool

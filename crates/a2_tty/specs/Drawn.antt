@@ -4,8 +4,8 @@ use Rattle.std.specs.Fmt.{decimal}
 use Rattle.a2_tty.specs.Lines.{Edited}
 
 -- a control sequence of the terminal: X makes this many cells blank, and C moves this many to the right; empty for 0
-abbrev pub order_text : ℕ → ℕ → List ℕ
-order_text number letter = if number == 0 then [] else 0x1B ∷ codes "[" ++ (decimal number ++ letter ∷ [])
+abbrev pub control_sequence_text : ℕ → ℕ → List ℕ
+control_sequence_text number letter = if number == 0 then [] else 0x1B ∷ codes "[" ++ (decimal number ++ letter ∷ [])
 
 -- the columns after the prompt, except the last one, which is for a cursor after the end of the line
 abbrev pub room : List ℕ → ℕ → ℕ
@@ -21,8 +21,8 @@ visible room line = take room (drop (first room line) line.bytes)
 -- the prompt and the shown bytes, blanks to the last column, and the cursor
 abbrev pub shown_text : List ℕ → ℕ → Edited → List ℕ
 shown_text prompt room line =
-    13 ∷ prompt ++ (visible room line ++ (order_text (room - length (visible room line)) 0x58
-    ++ (13 ∷ order_text (length prompt + min line.cursor (room - 1)) 0x43)))
+    13 ∷ prompt ++ (visible room line ++ (control_sequence_text (room - length (visible room line)) 0x58
+    ++ (13 ∷ control_sequence_text (length prompt + min line.cursor (room - 1)) 0x43)))
 
 abbrev pub line_text : List ℕ → ℕ → Edited → List ℕ
 line_text prompt columns line = shown_text prompt (room prompt columns) line

@@ -3,7 +3,7 @@ pub mod Drawn
 pub mod EditorKeys
 pub mod Editors
 pub mod Frames
-pub mod Hearing
+pub mod LineReading
 pub mod Histories
 pub mod Lines
 pub mod Tiles

@@ -6,7 +6,7 @@ use Rattle.a2_stream.specs.Stream.{Taker, Giver, Sends, Breaks, SendsOrBreaks}
 use Rattle.a2_stream.specs.declared.WriteFault.{WriteFault}
 use Rattle.a2_tty.specs.declared.session.fault.TalkFault.{TalkFault}
 use Rattle.a2_tty.specs.declared.session.fault.TalkFault.TheVariants.{Read, Write, Endless}
-use Rattle.a2_tty.specs.Hearing.{Loses}
+use Rattle.a2_tty.specs.LineReading.{Loses}
 
 -- the result of the call for one line; `Meets line old text new` states which text answers a line, and the state after
 -- it
@@ -35,7 +35,7 @@ abbrev pub IsQuit : List ℕ → Type 0
 IsQuit line = map capital line ≡ codes "QUIT"
 
 -- the lines that were read, with nothing after them, and the output that answers them
-pub record Told {S : Type 0} (Meets : List ℕ → S → List ℕ → S → Type 0) (prompt : List ℕ) (old new : S) (from to : Option (List ℕ)) : Type 0 where
+pub record AnsweredLines {S : Type 0} (Meets : List ℕ → S → List ℕ → S → Type 0) (prompt : List ℕ) (old new : S) (from to : Option (List ℕ)) : Type 0 where
   pub heard : List (List ℕ)
   pub read : Loses from to heard
   pub output : List ℕ
@@ -45,12 +45,12 @@ pub record Told {S : Type 0} (Meets : List ℕ → S → List ℕ → S → Type
 -- written; if a read failed, the lines before it were answered.
 abbrev pub IsTalk : {S : Type 0} → (List ℕ → S → List ℕ → S → Type 0) → List ℕ → S → S → Giver → Giver → Taker → Taker → Result (Unit {0}) TalkFault → Type 0
 IsTalk Meets prompt old new from to before after (Ok _) =
-    ((told : Told Meets prompt old new from.bytes to.bytes) × IsAtEnd to.bytes × Sends before after (told.output ++ (prompt ++ closing prompt)))
-    ⊎ ((between : Option (List ℕ)) × (told : Told Meets prompt old new from.bytes between) × (quit : List ℕ) × IsQuit quit × Loses between to.bytes (quit ∷ [])
+    ((told : AnsweredLines Meets prompt old new from.bytes to.bytes) × IsAtEnd to.bytes × Sends before after (told.output ++ (prompt ++ closing prompt)))
+    ⊎ ((between : Option (List ℕ)) × (told : AnsweredLines Meets prompt old new from.bytes between) × (quit : List ℕ) × IsQuit quit × Loses between to.bytes (quit ∷ [])
     × Sends before after (told.output ++ prompt))
 IsTalk Meets prompt old new from to before after (Err Write) =
-    (told : Told Meets prompt old new from.bytes to.bytes) × Breaks before after (told.output ++ (prompt ++ closing prompt))
+    (told : AnsweredLines Meets prompt old new from.bytes to.bytes) × Breaks before after (told.output ++ (prompt ++ closing prompt))
 IsTalk Meets prompt old new from to before after (Err Read) =
-    (between : Option (List ℕ)) × (told : Told Meets prompt old new from.bytes between) × Sends before after (told.output ++ prompt)
+    (between : Option (List ℕ)) × (told : AnsweredLines Meets prompt old new from.bytes between) × Sends before after (told.output ++ prompt)
 IsTalk Meets prompt old new from to before after (Err Endless) =
-    (between : Option (List ℕ)) × (told : Told Meets prompt old new from.bytes between) × (front : List ℕ) × Sends before after (told.output ++ front)
+    (between : Option (List ℕ)) × (told : AnsweredLines Meets prompt old new from.bytes between) × (front : List ℕ) × Sends before after (told.output ++ front)

@@ -22,8 +22,8 @@ unfoldable pub place_text : List ℕ → List ℕ → List ℕ
 place_text row column = escape ++ (row ++ (codes ";" ++ (column ++ codes "H")))
 
 -- the sixteen colours by their red, green and blue values, and by the nearest colour in the palette of 256
-abbrev pub shares : List (List ℕ)
-shares =
+abbrev pub rgb_values : List (List ℕ)
+rgb_values =
     codes "0;0;0" ∷ codes "221;0;51" ∷ codes "0;0;153" ∷ codes "221;34;221" ∷ codes "0;119;34" ∷ codes "85;85;85" ∷ codes "34;34;255"
     ∷ codes "102;170;255" ∷ codes "136;85;0" ∷ codes "255;102;0" ∷ codes "170;170;170" ∷ codes "255;153;136" ∷ codes "17;221;0"
     ∷ codes "255;255;0" ∷ codes "68;255;153" ∷ codes "255;255;255" ∷ []
@@ -49,7 +49,7 @@ light false false = 0xE2 ∷ 0x96 ∷ 0x88 ∷ []
 abbrev pub tile_text : Colours → Tile → List ℕ
 tile_text colours (Letter code) = escape ++ (codes "0m" ++ code ∷ [])
 tile_text colours (Inverse code) = escape ++ (codes "0;7m" ++ code ∷ [])
-tile_text have.Full (Blocks above below) = halves_text (codes "2;") (slice_index_or shares above []) (slice_index_or shares below [])
+tile_text have.Full (Blocks above below) = halves_text (codes "2;") (slice_index_or rgb_values above []) (slice_index_or rgb_values below [])
 tile_text have.Palette (Blocks above below) = halves_text (codes "5;") (slice_index_or nearest above []) (slice_index_or nearest below [])
 tile_text have.None (Blocks above below) = escape ++ (codes "0m" ++ light (above == 0) (below == 0))
 

@@ -14,7 +14,7 @@ const MOST_POSITION: u64 = 100_000_000;
 impl<A: Allocator + Copy> Inspector<'_, A> {
     /// Executes steps up to `position`, counted in steps from the start, or as far as the run goes, at most to 100,000,000.
     /// Returns whether the run reached the position. No byte counts as changed by this.
-    pub fn bring(&mut self, position: u64) -> bool
+    pub fn replay_to(&mut self, position: u64) -> bool
         ensures gone { GoesOn (λ world. false) (min (position - self.old.track.position) 100_000_000) self.old.track
             self.new.track }
         ensures there { (result ≡ true) ↔ (self.new.track.position ≡ position) }

@@ -1,6 +1,6 @@
 //! Laws of which checkpoints are kept. Calling these functions does nothing: their contracts are the laws.
 
-ghost use Rattle.a2_history.specs.SpacingLaws.{EachIsNear, WithinAFiftieth, NoneIsWantedAgain, NoMoreAreKept};
+ghost use Rattle.a2_history.specs.SpacingLaws.{EachIsNear, WithinAFiftieth, DroppedIsNeverNeeded, NoMoreAreKept};
 
 /// Each position up to `now` has a kept checkpoint at or before it, near enough. At most 1,023 steps lead from there
 /// to the position, or at most twice the steps from the position to `now`, divided by the width minus 1. The start
@@ -16,8 +16,8 @@ pub fn within_a_fiftieth()
 {}
 
 /// What is kept at a later position was already kept before, so a dropped checkpoint is never needed again.
-pub fn none_is_wanted_again()
-    ensures { NoneIsWantedAgain }
+pub fn dropped_is_never_needed()
+    ensures { DroppedIsNeverNeeded }
 {}
 
 /// The number of different positions after the start that are kept is at most `most_kept`, and so at most the number

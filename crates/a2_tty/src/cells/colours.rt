@@ -20,8 +20,8 @@ pub enum Colours {
 
 // Returns the red, green and blue values of a lo-res colour. Apple II Reference Manual (1979), page 17, names the
 // sixteen; their values are this project's profile.
-fn shares_of(colour: u8) -> &'static [u8]
-    ensures { result.now ≡ slice_index_or written.shares colour [] }
+fn rgb_of(colour: u8) -> &'static [u8]
+    ensures { result.now ≡ slice_index_or written.rgb_values colour [] }
 {
     match colour {
         0 => b"0;0;0",
@@ -45,7 +45,7 @@ fn shares_of(colour: u8) -> &'static [u8]
 }
 
 // Returns the nearest colour in the palette of 256.
-fn nearest_to(colour: u8) -> &'static [u8]
+fn nearest_in_palette(colour: u8) -> &'static [u8]
     ensures { result.now ≡ slice_index_or written.nearest colour [] }
 {
     match colour {
@@ -113,10 +113,15 @@ pub fn put_tile<W: Output>(tile: Tile, colours: Colours, writer: &mut W) -> Resu
         (Tile::Letter(code), _) => put_all(&[b"\x1B[0m", &[code]], writer),
         (Tile::Inverse(code), _) => put_all(&[b"\x1B[0;7m", &[code]], writer),
         (Tile::Blocks(above, below), Colours::Full) => {
-            put_halves(b"2;", shares_of(above), shares_of(below), writer)
+            put_halves(b"2;", rgb_of(above), rgb_of(below), writer)
         }
         (Tile::Blocks(above, below), Colours::Palette) => {
-            put_halves(b"5;", nearest_to(above), nearest_to(below), writer)
+            put_halves(
+                b"5;",
+                nearest_in_palette(above),
+                nearest_in_palette(below),
+                writer,
+            )
         }
         (Tile::Blocks(above, below), Colours::None) => {
             put_all(&[b"\x1B[0m", light(above, below)], writer)

@@ -34,7 +34,7 @@ impl Model for Frame {
 }
 
 // Returns the index of a cell.
-fn number_of(row: u8, column: u8) -> usize
+fn cell_index(row: u8, column: u8) -> usize
     requires row { row < 64 }
     requires column { column < 255 }
     ensures value { result ≡ 255 * row + column }
@@ -59,7 +59,7 @@ impl Frame {
         requires column { column < 255 }
         ensures { self.new ≡ slice_set self.old (255 * row + column) tile }
     {
-        self.tiles[number_of(row, column)] = tile;
+        self.tiles[cell_index(row, column)] = tile;
     }
 }
 
@@ -71,7 +71,7 @@ impl Cells for Frame {
     ghost width = { 255 };
 
     fn cell_at(&self, row: u8, column: u8) -> Tile {
-        self.tiles[number_of(row, column)]
+        self.tiles[cell_index(row, column)]
     }
 }
 

@@ -14,7 +14,7 @@ type Order = ArrayVec<u8, 24>;
 
 // Returns a control sequence with a number, or an empty one if the number is 0.
 fn order_of(number: usize, letter: u8) -> Order
-    ensures { result.items ≡ drawn.order_text number letter }
+    ensures { result.items ≡ drawn.control_sequence_text number letter }
 {
     let mut order = Order::new();
     if number > 0 {
@@ -34,8 +34,8 @@ fn visible(line: &Line, room: usize) -> &[u8]
     ensures few { length result.now ≤ room }
 {
     let first = line.cursor().saturating_sub(room - 1);
-    let behind = &line.bytes()[first..];
-    &behind[..room.min(behind.len())]
+    let following = &line.bytes()[first..];
+    &following[..room.min(following.len())]
 }
 
 /// Draws a line after its prompt, from the first column of the terminal's row, and puts the terminal's cursor at the

@@ -109,7 +109,7 @@ impl Editor {
     }
 
     // Shows an older line, if there is one.
-    fn go_back(&mut self)
+    fn show_older(&mut self)
         ensures { self.new ≡ editors.older self.old }
     {
         if self.age >= self.history.len() {
@@ -122,7 +122,7 @@ impl Editor {
     }
 
     // Shows a newer line, if there is one.
-    fn go_on(&mut self)
+    fn show_newer(&mut self)
         ensures { self.new ≡ editors.newer self.old }
     {
         if self.age > 0 {
@@ -164,7 +164,7 @@ impl Editor {
     }
 
     // Applies a key.
-    fn obey(&mut self, key: Key) -> Act
+    fn apply_key(&mut self, key: Key) -> Act
         ensures done { self.new ≡ editors.done key self.old }
         ensures act { result ≡ editors.act_of key self.old.line }
     {
@@ -183,8 +183,8 @@ impl Editor {
             Key::DropRest => self.line.drop_rest(),
             Key::DropFront => self.line.drop_front(),
             Key::DropWord => self.line.drop_word(),
-            Key::Older => self.go_back(),
-            Key::Newer => self.go_on(),
+            Key::Older => self.show_older(),
+            Key::Newer => self.show_newer(),
         }
         Act::Draw
     }
@@ -198,7 +198,7 @@ impl Editor {
         let heard = hear(self.sequence, byte);
         self.sequence = heard.next;
         match heard.key {
-            Some(key) => self.obey(key),
+            Some(key) => self.apply_key(key),
             None => Act::Nothing,
         }
     }

@@ -133,7 +133,7 @@ impl Line {
     }
 
     // Deletes the bytes from a position to the cursor, and moves the cursor there.
-    fn take_from(&mut self, place: usize)
+    fn delete_from(&mut self, place: usize)
         requires { place ≤ self.old.cursor }
         ensures { self.new ≡ lines.without_from place self.old }
     {
@@ -149,7 +149,7 @@ impl Line {
     pub(crate) fn rub_out(&mut self)
         ensures { self.new ≡ lines.without_from (self.old.cursor - 1) self.old }
     {
-        self.take_from(self.cursor.saturating_sub(1));
+        self.delete_from(self.cursor.saturating_sub(1));
     }
 
     /// Deletes the byte at the cursor, if there is one.
@@ -172,15 +172,15 @@ impl Line {
     pub(crate) fn drop_front(&mut self)
         ensures { self.new ≡ lines.without_from 0 self.old }
     {
-        self.take_from(0);
+        self.delete_from(0);
     }
 
     /// Deletes the blanks before the cursor, and the word before those.
     pub(crate) fn drop_word(&mut self)
         ensures { self.new ≡ lines.without_from (lines.word_start self.old) self.old }
     {
-        let behind = back_over(self.bytes.as_slice(), self.cursor, true);
-        let start = back_over(self.bytes.as_slice(), behind, false);
-        self.take_from(start);
+        let following = back_over(self.bytes.as_slice(), self.cursor, true);
+        let start = back_over(self.bytes.as_slice(), following, false);
+        self.delete_from(start);
     }
 }

@@ -66,7 +66,7 @@ fn draw<R, E: Output>(console: &mut Console<'_, R, E>, editor: &Editor) {
 
 // Returns the line that is given, at most 255 bytes, and its end.
 #[tactic(auto, using(std::proofs::lemmas::List::take_min))]
-fn given_of(line: &[u8]) -> Given
+fn submitted_line(line: &[u8]) -> Given
     ensures { result.items ≡ take 255 line.now ++ 10 ∷ [] }
 {
     let mut given = Given::new();
@@ -90,14 +90,14 @@ fn follow<R, E: Output>(
             let _ = put(BELL, console.echo);
         }
         Act::Clear => match console.by_clear {
-            Some(line) if editor.line().bytes().is_empty() => return Some(given_of(line)),
+            Some(line) if editor.line().bytes().is_empty() => return Some(submitted_line(line)),
             _ => {
                 let _ = put(CLEAR, console.echo);
                 draw(console, editor);
             }
         },
         Act::Take => {
-            let given = given_of(editor.line().bytes());
+            let given = submitted_line(editor.line().bytes());
             editor.finish();
             let _ = put(b"\n", console.echo);
             return Some(given);

@@ -5,7 +5,7 @@ ghost use Rattle.std.specs.Str.Lines.{strip_carriage_return};
 ghost use Rattle.a2_stream.specs.Stream.{count_after};
 ghost use Rattle.a2_tty.specs.declared.session.fault.TalkFault.TheVariants.{Write};
 ghost use Rattle.a2_tty.specs.declared.session.hearing.Ending.TheVariants.{Input};
-ghost use Rattle.a2_tty.specs.Hearing.{IsPiece, IsHeard, is_unread};
+ghost use Rattle.a2_tty.specs.LineReading.{IsPiece, IsLineRead, is_unread};
 
 use crate::session::TalkFault;
 use a2_stream::Input;
@@ -80,7 +80,7 @@ fn drop_return(line: &mut Line)
 }
 
 // Returns whether the input ended without another byte.
-fn is_nothing(ending: Ending, line: &Line) -> bool
+fn is_end_of_input(ending: Ending, line: &Line) -> bool
     ensures { (result ≡ true) ↔ ((ending ≡ Input) × (line.now.items ≡ [])) }
 {
     match ending {
@@ -93,12 +93,12 @@ fn is_nothing(ending: Ending, line: &Line) -> bool
 /// the line is read. An empty piece at the end of the input is not a line. After a line of more than 255 bytes, the
 /// contents of `line` are not specified. Fails if a read fails, or after 2^64 - 1 bytes without an end of the line.
 pub fn hear<R: Input>(line: &mut Line, reader: &mut R) -> Result<Heard, TalkFault>
-    ensures heard { IfOk result (λ heard. IsHeard (R.giver reader.old) (R.giver reader.new) heard line.new.items) }
+    ensures heard { IfOk result (λ heard. IsLineRead (R.giver reader.old) (R.giver reader.new) heard line.new.items) }
     ensures fault { IfErr result (λ fault. fault ≢ Write) }
     ensures counted { (R.giver reader.new).failures ≡ count_after (is_unread result) (R.giver reader.old).failures }
 {
     let ending = read_piece(line, reader)?;
-    if is_nothing(ending, line) {
+    if is_end_of_input(ending, line) {
         return Ok(Heard::End);
     }
     drop_return(line);

@@ -3,7 +3,7 @@
 ghost use Rattle.std.specs.Prelude.{◌≡◌, ◌≢◌, ◌↔◌, List, ℕ, map, codes, true};
 ghost use Rattle.a2_text.specs.Bytes.{capital as capital_of};
 ghost use Rattle.a2_stream.specs.Stream.{count_after};
-ghost use Rattle.a2_tty.specs.Hearing.{is_unread, IsTextOf};
+ghost use Rattle.a2_tty.specs.LineReading.{is_unread, IsTextOf};
 ghost use Rattle.a2_tty.specs.Turns.{RepliesTo, MeetsOr, closing, IsTalk};
 ghost use Rattle.a2_tty.specs.declared.session.hearing.Heard.TheVariants.{End};
 

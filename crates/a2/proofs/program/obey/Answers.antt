@@ -1,4 +1,4 @@
-use Rattle.a2.proofs.Told.{told_of_order}
+use Rattle.a2.proofs.Reported.{told_of_order}
 use Rattle.a2.proofs.program.obey.Goals as goal
 
 pub returns-in-Ok-clause-told : goal.returns-in-Ok-clause-told

@@ -2,7 +2,7 @@ use Rattle.std.proofs.Common.{sym, ap, ◌∙◌, subst, inr}
 use Rattle.std.proofs.lemmas.Result.{IfOk-weaker}
 use Rattle.a2_asm.specs.Every.{first_and_others}
 use Rattle.a2_asm.specs.Pass.{source_rows}
-use Rattle.a2_asm.specs.Refusals.{IsLayoutRefusal}
+use Rattle.a2_asm.specs.Refusals.{IsLayoutError}
 use Rattle.a2_asm.proofs.RowLaws.{rows-fit}
 use Rattle.a2_asm.proofs.EveryLaws.{each-of}
 use Rattle.a2_asm.proofs.every.refusals.Goals as goal
@@ -11,7 +11,7 @@ pub returns : goal.returns
 returns g c =
     let source = c.args.source.now in
     let first = c.in_ok-first.first in
-    let refusal = subst (IsLayoutRefusal source) (sym c.in_ok-first.ensures.same) (c.in-Err.ensures.refused c.in_ok-first.ensures.source) in
+    let refusal = subst (IsLayoutError source) (sym c.in_ok-first.ensures.same) (c.in-Err.ensures.refused c.in_ok-first.ensures.source) in
     IfOk-weaker c.first_and_others.result _ _
     (λ faults found. inr (
       first,

@@ -1,8 +1,8 @@
 use Rattle.std.proofs.Common.{arith}
 use Rattle.a2_asm.proofs.layout.refuse_body.Goals as goal
 
-pub refuse_now-requires : goal.refuse_now-requires
-refuse_now-requires g c = c.requires
+pub directive_error-requires : goal.directive_error-requires
+directive_error-requires g c = c.requires
 
 pub returns-in-Org : goal.returns-in-Org
 returns-in-Org g c = grind arith

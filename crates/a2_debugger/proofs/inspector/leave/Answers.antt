@@ -2,7 +2,7 @@ use Rattle.std.specs.Prelude.{◌||◌, nat_le}
 use Rattle.std.proofs.Common.{sym, subst}
 use Rattle.a2_services.specs.World.{World}
 use Rattle.a2_machine.specs.State.{world_of_state}
-use Rattle.a2_history.specs.Going.{Warns}
+use Rattle.a2_history.specs.Going.{AlarmsAreComplete}
 use Rattle.a2_debugger.specs.Inspections.{is_left}
 use Rattle.a2_debugger.specs.Stops.{is_stop}
 use Rattle.a2_debugger.specs.Alerts.{Alerts, alarms}
@@ -16,7 +16,7 @@ go_on-requires g c =
     let marks = c.args.marks.now in
     let s = c.args.s in
     let warns : Alerts → World → Type 0 = λ alerts w.
-    Warns (is_left s (is_stop stops.breaks.now stops.watches.now w))
+    AlarmsAreComplete (is_left s (is_stop stops.breaks.now stops.watches.now w))
     (λ shown. nat_le s shown.look.next_s || alarms alerts stops.breaks.now stops.watches.now w shown) track.course track.position in
     subst (λ (alerts : Alerts). warns alerts (world_of_state stops.before.now.state)) (sym c.lent.ensures)
     (subst (λ (w : World). warns marks w) (sym c.requires.here)

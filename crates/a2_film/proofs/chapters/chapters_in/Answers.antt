@@ -27,7 +27,7 @@ loop-line-preserved-then-is_empty g c =
     let texts = c.args.lines.now in
     let i = c.loop-line.line-index in
     let low = c.loop-line-test.true in
-    let silent : is_silent (get_or texts i no_text).now ≡ true = ap (λ (l : List ℕ). length l == 0) (sym c.behind_blanks.ensures)
+    let silent : is_silent (get_or texts i no_text).now ≡ true = ap (λ (l : List ℕ). length l == 0) (sym c.after_blanks.ensures)
     ∙ sym c.if-is_empty.ensures in record {
       number = omega (arith, c.loop-line.invariant.number);
       are = chapters_silent (now texts) i (get_or texts i no_text).now c.loop-line.chapters.items (within texts i low)
@@ -40,7 +40,7 @@ returns-in_default-clause-refused g c =
     let texts = c.args.lines.now in
     let i = c.loop-line.line-index in
     let low = c.loop-line-test.true in
-    let some : is_silent (get_or texts i no_text).now ≡ false = ap (λ (l : List ℕ). length l == 0) (sym c.behind_blanks.ensures)
+    let some : is_silent (get_or texts i no_text).now ≡ false = ap (λ (l : List ℕ). length l == 0) (sym c.after_blanks.ensures)
     ∙ sym c.if-is_empty.ensures in
     let number : c.loop-line.number + 1 ≡ i + 1 = omega (arith, c.loop-line.invariant.number) in
     λ other. (
@@ -56,7 +56,7 @@ loop-line-preserved g c =
     let texts = c.args.lines.now in
     let i = c.loop-line.line-index in
     let low = c.loop-line-test.true in
-    let some : is_silent (get_or texts i no_text).now ≡ false = ap (λ (l : List ℕ). length l == 0) (sym c.behind_blanks.ensures)
+    let some : is_silent (get_or texts i no_text).now ≡ false = ap (λ (l : List ℕ). length l == 0) (sym c.after_blanks.ensures)
     ∙ sym c.if-is_empty.ensures in
     let pushed : c.push.new.self.items ≡ c.loop-line.chapters.items ++ c.in-Some.chapter ∷ [] =
     went _ c.push.new.self.items (c.loop-line.chapters.items ++ c.in-Some.chapter ∷ []) c.loop-line.chapters.items

@@ -1,34 +1,36 @@
-use Rattle.std.proofs.Common.{◌∙◌, List, ℕ, map, ap}
+use Rattle.std.proofs.Common.{◌∙◌, List, ℕ, map, ap, sym}
 use Rattle.std.proofs.lemmas.Result.{err_from_is_err_and}
 use Rattle.std.specs.Borrow.{Bor}
 use Rattle.a2_stream.proofs.Joined.{Sends-nil}
+use Rattle.a2_text.specs.Lines.{lines}
 use Rattle.a2_film.proofs.TextRuns.{film-done, film-broken, head-broken}
 use Rattle.a2_film.proofs.film.film_run.Goals as goal
 
 pub returns-clause-meaning : goal.returns-clause-meaning
 returns-clause-meaning g c =
-    film-done c.args.source.now c.args.title.now c.args.chapters.now c.args.free c.args.program.now
-    c.args.machine c.guard_by.new.machine c.guard_by.ensures c.args.limit (map (λ x. x.now) c.as_slice.result.now)
-    (ap (λ (items : List (Bor (List ℕ))). map (λ x. x.now) items) c.as_slice.ensures.value ∙ c.in_ok-texts.ensures)
+    rw c.program-program.ensures.is at
+    (film-done c.args.assembled.now.text c.args.titles.title.now c.args.titles.chapters.now c.args.reel.free c.program-program.result.now
+    c.args.reel.machine c.guard_by.new.machine c.guard_by.ensures c.args.reel.limit (map (λ x. x.now) c.as_slice.result.now)
+    (ap (λ (items : List (Bor (List ℕ))). map (λ x. x.now) items) c.as_slice.ensures.value ∙ c.in_ok-texts.ensures ∙ ap lines c.text.ensures)
     (g.W.Output.taker c.args.writer.now) (g.W.Output.taker c.put_head.new.writer) (g.W.Output.taker c.film_rest.new.writer)
-    c.in_ok-cause.cause c.in_ok-put_head.ensures c.in_ok-cause.ensures
+    c.in_ok-cause.cause c.in_ok-put_head.ensures c.in_ok-cause.ensures)
 
 pub returns-in_err-put_head-clause-meaning : goal.returns-in_err-put_head-clause-meaning
 returns-in_err-put_head-clause-meaning g c =
     let fault = err_from_is_err_and c.from_residual-in_err-put_head.result c.from_residual-in_err-put_head.ensures.1 in
-    rw (fault.1, fault.2)
-    (head-broken c.args.source.now c.args.title.now c.args.chapters.now c.args.free c.args.program.now
-    c.args.machine c.guard_by.new.machine c.guard_by.ensures c.args.limit (map (λ x. x.now) c.as_slice.result.now)
-    (ap (λ (items : List (Bor (List ℕ))). map (λ x. x.now) items) c.as_slice.ensures.value ∙ c.in_ok-texts.ensures)
+    rw (fault.1, fault.2, sym c.program-program.ensures.is)
+    (head-broken c.args.assembled.now.text c.args.titles.title.now c.args.titles.chapters.now c.args.reel.free c.program-program.result.now
+    c.args.reel.machine c.guard_by.new.machine c.guard_by.ensures c.args.reel.limit (map (λ x. x.now) c.as_slice.result.now)
+    (ap (λ (items : List (Bor (List ℕ))). map (λ x. x.now) items) c.as_slice.ensures.value ∙ c.in_ok-texts.ensures ∙ ap lines c.text.ensures)
     (g.W.Output.taker c.args.writer.now) (g.W.Output.taker c.put_head.new.writer) c.in_err-put_head.ensures)
 
 pub returns-in_err-cause-clause-meaning : goal.returns-in_err-cause-clause-meaning
 returns-in_err-cause-clause-meaning g c =
     let fault = err_from_is_err_and c.from_residual-in_err-cause.result c.from_residual-in_err-cause.ensures.1 in
-    rw (fault.1, fault.2)
-    (film-broken c.args.source.now c.args.title.now c.args.chapters.now c.args.free c.args.program.now
-    c.args.machine c.guard_by.new.machine c.guard_by.ensures c.args.limit (map (λ x. x.now) c.as_slice.result.now)
-    (ap (λ (items : List (Bor (List ℕ))). map (λ x. x.now) items) c.as_slice.ensures.value ∙ c.in_ok-texts.ensures)
+    rw (fault.1, fault.2, sym c.program-program.ensures.is)
+    (film-broken c.args.assembled.now.text c.args.titles.title.now c.args.titles.chapters.now c.args.reel.free c.program-program.result.now
+    c.args.reel.machine c.guard_by.new.machine c.guard_by.ensures c.args.reel.limit (map (λ x. x.now) c.as_slice.result.now)
+    (ap (λ (items : List (Bor (List ℕ))). map (λ x. x.now) items) c.as_slice.ensures.value ∙ c.in_ok-texts.ensures ∙ ap lines c.text.ensures)
     (g.W.Output.taker c.args.writer.now) (g.W.Output.taker c.put_head.new.writer) (g.W.Output.taker c.film_rest.new.writer)
     c.in_ok-put_head.ensures c.in_err-cause.ensures)
 

@@ -5,7 +5,7 @@ use Rattle.a2_film.specs.Filmed.{most_kept, seen_by, seen_of}
 use Rattle.a2_film.proofs.Filming.{IsFilmed}
 use Rattle.a2_film.proofs.film.film_steps.Given as goal
 
--- the steps so far are made, and their rows went out but for those that are kept
+-- the steps so far are executed, and their rows were written, except those that are kept
 abbrev pub invariant-loop : goal.invariant-loop
 invariant-loop g l = record {
   filmed : IsFilmed (code_of l.fn.machine.state) (world_of_state l.fn.machine.state) (g.W.Output.taker l.fn.writer)

@@ -6,7 +6,7 @@ use Rattle.a2_film.specs.Changes.{differing}
 use Rattle.a2_film.specs.Rows.{stores_text, no_address}
 use Rattle.a2_film.proofs.head.put_differing.Given as goal
 
--- the pieces so far went out
+-- the pieces so far were written
 abbrev pub invariant-loop-piece : goal.invariant-loop-piece
 invariant-loop-piece g l =
     let old = slice_index l.old in

@@ -5,7 +5,7 @@ use Rattle.a2_asm.specs.Entries.{entries}
 use Rattle.a2_film.specs.Rows.{name_line}
 use Rattle.a2_film.proofs.head.put_names.Given as goal
 
--- the lines so far went out
+-- the lines so far were written
 abbrev pub invariant-loop-index : goal.invariant-loop-index
 invariant-loop-index g l =
     IsLeft (g.W.Output.taker l.fn.writer) (g.W.Output.taker l.writer)

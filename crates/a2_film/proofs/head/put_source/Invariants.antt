@@ -4,7 +4,7 @@ use Rattle.a2_page.proofs.Sending.{IsLeft}
 use Rattle.a2_film.specs.Rows.{source_line}
 use Rattle.a2_film.proofs.head.put_source.Given as goal
 
--- the lines so far went out
+-- the lines so far were written
 abbrev pub invariant-loop-text : goal.invariant-loop-text
 invariant-loop-text g l =
     IsLeft (g.W.Output.taker l.fn.writer) (g.W.Output.taker l.writer)

@@ -5,7 +5,7 @@ use Rattle.a2_hex.specs.Images.{held}
 use Rattle.a2_film.specs.Rows.{statement_line}
 use Rattle.a2_film.proofs.head.put_statements.Given as goal
 
--- the lines so far went out
+-- the lines so far were written
 abbrev pub invariant-loop-statement : goal.invariant-loop-statement
 invariant-loop-statement g l =
     IsLeft (g.W.Output.taker l.fn.writer) (g.W.Output.taker l.writer)

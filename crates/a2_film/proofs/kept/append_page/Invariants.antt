@@ -5,7 +5,7 @@ use Rattle.a2_film.specs.Changes.{differing}
 use Rattle.a2_film.specs.Filmed.{from_address, Appends}
 use Rattle.a2_film.proofs.kept.append_page.Given as goal
 
--- those of the pieces so far stand behind the row
+-- the stores of the pieces so far are appended to the row
 abbrev pub invariant-loop-piece : goal.invariant-loop-piece
 invariant-loop-piece g l = record {
   stores : Appends l.fn.rows.items l.next

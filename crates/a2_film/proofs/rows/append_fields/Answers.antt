@@ -5,7 +5,7 @@ use Rattle.a2_effect.specs.Registers.{byte_of_flags}
 use Rattle.a2_film.specs.Changes.{changed, switch_digit}
 use Rattle.a2_film.specs.Filmed.{seen_by}
 use Rattle.a2_film.specs.Rows.{byte_text, switches_text, keys_text}
-use Rattle.a2_film.proofs.Appending.{nine-behind}
+use Rattle.a2_film.proofs.Appending.{nine-following}
 use Rattle.a2_film.proofs.rows.append_fields.Goals as goal
 
 pub returns-clause-items : goal.returns-clause-items
@@ -14,7 +14,7 @@ returns-clause-items c =
     let after = seen_by c.args.after.now in
     let old = before.registers in
     let new = after.registers in
-    nine-behind c.args.rows.now.items c.append_address.new.rows.items c.append_number.new.rows.items
+    nine-following c.args.rows.now.items c.append_address.new.rows.items c.append_number.new.rows.items
     c.append_byte.new.rows.items c.append_byte-2.new.rows.items c.append_byte-3.new.rows.items c.append_byte-4.new.rows.items
     c.append_byte-5.new.rows.items c.append_switches.new.rows.items c.append_keys.new.rows.items
     (hex_word new.pc) (decimal (after.cycles - before.cycles)) (byte_text 0x61 (changed old.a new.a))

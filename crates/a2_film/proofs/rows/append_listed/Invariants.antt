@@ -6,7 +6,7 @@ use Rattle.a2_film.specs.Filmed.{Appends}
 use Rattle.a2_film.specs.Rows.{no_address}
 use Rattle.a2_film.proofs.rows.append_listed.Given as goal
 
--- the bytes at the addresses so far stand behind the row
+-- the bytes at the addresses so far are appended to the row
 abbrev pub invariant-loop-address : goal.invariant-loop-address
 invariant-loop-address g l = record {
   stores : Appends l.fn.rows.items no_address

@@ -5,7 +5,7 @@ use Rattle.a2_film.specs.Changes.{differing}
 use Rattle.a2_film.specs.Filmed.{from_address, Appends}
 use Rattle.a2_film.proofs.rows.append_others.Given as goal
 
--- those below an address stand behind the row
+-- the stores below an address are appended to the row
 abbrev pub invariant-loop-address : goal.invariant-loop-address
 invariant-loop-address g l = record {
   from : l.first ≤ l.address;

@@ -4,7 +4,7 @@ use Rattle.a2_page.proofs.Sending.{IsLeft}
 use Rattle.a2_film.proofs.texts.put_digits.Given as goal
 use Rattle.a2_text.specs.Digits.{hex_pair}
 
--- the bytes so far went out
+-- the bytes so far were written
 abbrev pub invariant-loop-byte : goal.invariant-loop-byte
 invariant-loop-byte g l =
     IsLeft (g.W.Output.taker l.fn.writer) (g.W.Output.taker l.writer) (flat_map hex_pair l.bytes)

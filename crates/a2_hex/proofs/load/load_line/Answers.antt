@@ -20,12 +20,12 @@ returns-then-store-from-clause-refused g c =
     let (some, n, after) = after-counted _ _ c.in-Some.ensures.words c.in-Some-store_line.ensures.line c.in-Some-store_line.ensures.count in
     rw (after, ← c.in-Some-or.ensures, n, outside c.in-Some-or.address c.in-Some-store_line.store.count (omega arith)) refl
 
-pub lay-requires : goal.lay-requires
-lay-requires g c =
+pub put_bytes_from-requires : goal.put_bytes_from-requires
+put_bytes_from-requires g c =
     let (some, n, after) = after-counted _ _ c.in-Some.ensures.words c.in-Some-store_line.ensures.line c.in-Some-store_line.ensures.count in
     λ κs h. (h, (some, rw n (inside c.in-Some-or.address c.in-Some-store_line.store.count (omega arith))))
 
 pub returns-clause-loaded : goal.returns-clause-loaded
 returns-clause-loaded g c =
     let (some, n, after) = after-counted _ _ c.in-Some.ensures.words c.in-Some-store_line.ensures.line c.in-Some-store_line.ensures.count in
-    rw (c.lay.ensures.image, c.lay.ensures.next, after, ← c.in-Some-or.ensures, n, inside c.in-Some-or.address c.in-Some-store_line.store.count (omega arith)) refl
+    rw (c.put_bytes_from.ensures.image, c.put_bytes_from.ensures.next, after, ← c.in-Some-or.ensures, n, inside c.in-Some-or.address c.in-Some-store_line.store.count (omega arith)) refl

@@ -14,9 +14,9 @@ loop-typed-preserved g c =
     let split : drop i log ≡ t ∷ drop (i + 1) log =
     drop_more log i t c.loop-typed-test.true ∙ ap (λ (x : Typed). x ∷ drop (i + 1) log) (sym c.typed-item.is) in
     record {
-      world = logged-next log i t c.loop-typed.machine.state c.type_again.new.machine.state split c.type_again.ensures ∙ c.loop-typed.invariant.world;
-      steps = c.type_again.ensures.steps ∙ c.loop-typed.invariant.steps;
-      guard = c.type_again.ensures.guard ∙ c.loop-typed.invariant.guard;
+      world = logged-next log i t c.loop-typed.machine.state c.retype.new.machine.state split c.retype.ensures ∙ c.loop-typed.invariant.world;
+      steps = c.retype.ensures.steps ∙ c.loop-typed.invariant.steps;
+      guard = c.retype.ensures.guard ∙ c.loop-typed.invariant.guard;
     }
 
 pub returns : goal.returns

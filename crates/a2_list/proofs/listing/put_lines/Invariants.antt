@@ -4,7 +4,7 @@ use Rattle.a2_hex.specs.Images.{held}
 use Rattle.a2_list.specs.Listing.{listing_rows, rows_and_gap}
 use Rattle.a2_list.proofs.listing.put_lines.Given as goal
 
--- the rows of the lines so far went out
+-- the rows of the lines so far were written
 abbrev pub invariant-loop-text : goal.invariant-loop-text
 invariant-loop-text g l = record {
   counted : l.number ≡ l.text-index + 1;

@@ -4,7 +4,7 @@ use Rattle.a2_page.proofs.Sending.{IsLeft}
 use Rattle.a2_list.specs.NameTable.{use_head, use_row}
 use Rattle.a2_list.proofs.name_table.put_use_table.Given as goal
 
--- the head and the rows of the names so far went out
+-- the head and the rows of the names so far were written
 abbrev pub invariant-loop-name : goal.invariant-loop-name
 invariant-loop-name g l =
     IsLeft (g.W.Output.taker l.fn.writer) (g.W.Output.taker l.writer)

@@ -5,7 +5,7 @@ use Rattle.a2_list.specs.NameTable.{numbers}
 use Rattle.a2_list.proofs.UseLaws.{rest_of}
 use Rattle.a2_list.proofs.name_table.put_uses.Given as goal
 
--- the numbers of the lines so far went out
+-- the numbers of the lines so far were written
 abbrev pub invariant-loop-index : goal.invariant-loop-index
 invariant-loop-index g l =
     IsLeft (g.W.Output.taker l.fn.writer) (g.W.Output.taker l.writer) (numbers (uses l.name 1 l.lines) ++ codes "\n")

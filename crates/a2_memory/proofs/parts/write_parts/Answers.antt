@@ -3,7 +3,7 @@ use Rattle.a2_stream.specs.Stream.{Sends, Breaks}
 use Rattle.a2_stream.proofs.Joined.{Sends-nil, broke, broke_within}
 use Rattle.a2_bus.specs.View.{memory_of}
 use Rattle.a2_services.specs.World.{World}
-use Rattle.a2_monitor.specs.Sittings.{Sitting}
+use Rattle.a2_monitor.specs.SessionStates.{SessionState}
 use Rattle.a2_memory.specs.declared.part.Part.{Part}
 use Rattle.a2_memory.specs.Parts.{shown_part}
 use Rattle.a2_memory.proofs.ShownLaws.{sends-more, sends-moved, breaks-moved}
@@ -11,7 +11,7 @@ use Rattle.a2_memory.proofs.parts.write_parts.Goals as goal
 
 pub loop-part-init : goal.loop-part-init
 loop-part-init g c = record {
-  memory = ap (λ (s : Sitting). s.world.memory) c.new-session.ensures.sitting;
+  memory = ap (λ (s : SessionState). s.world.memory) c.new-session.ensures.session_state;
   sent = Sends-nil (g.W.Output.taker c.args.writer.now);
 }
 

@@ -3,7 +3,7 @@ use Rattle.a2_page.proofs.Sending.{IsLeft}
 use Rattle.a2_profile.specs.Callgrind.{line_costs, source_costs}
 use Rattle.a2_profile.proofs.callgrind.put_lines.Given as goal
 
--- the function with the costs of the lines so far went out
+-- the function with the costs of the lines so far was written
 abbrev pub invariant-loop-text : goal.invariant-loop-text
 invariant-loop-text g l = record {
   counted : l.number ≡ l._text-index + 1;

@@ -2,7 +2,7 @@ use Rattle.std.proofs.Common.{arith, codes, map, refl}
 use Rattle.a2_stream.proofs.Joined.{broke_off}
 use Rattle.a2_page.proofs.Sending.{left_more, left_broke_off}
 use Rattle.a2_profile.specs.Json.{line_objects, lines_array}
-use Rattle.a2_profile.proofs.ItemLaws.{left_items, behind-next, objects-next}
+use Rattle.a2_profile.proofs.ItemLaws.{left_items, following-next, objects-next}
 use Rattle.a2_profile.proofs.json.put_lines.Goals as goal
 
 pub returns-in_err-put : goal.returns-in_err-put
@@ -21,7 +21,7 @@ loop-text-init g c = record {
 pub returns-in_err-put_line : goal.returns-in_err-put_line
 returns-in_err-put_line g c =
     left_broke_off _ _ _ c.from_residual-in_err-put_line.result _ _ _ _ c.from_residual-in_err-put_line.ensures.0
-    (behind-next c.loop-text.front.now _ _ _
+    (following-next c.loop-text.front.now _ _ _
     (objects-next c.args.profile.now c.args.statements.now c.loop-text.number c.loop-text.text-index c.args.texts.now _ _ c.instruction_on-statement.ensures c.loop-text-test.true))
     c.loop-text.invariant.left c.in_err-put_line.ensures
 
@@ -29,7 +29,7 @@ pub loop-text-preserved : goal.loop-text-preserved
 loop-text-preserved g c = record {
   counted = omega (arith, c.loop-text.invariant.counted);
   left = left_more _ _ _ _ _ _ _
-      (behind-next c.loop-text.front.now _ _ _
+      (following-next c.loop-text.front.now _ _ _
       (objects-next c.args.profile.now c.args.statements.now c.loop-text.number c.loop-text.text-index c.args.texts.now _ _ c.instruction_on-statement.ensures c.loop-text-test.true))
       c.loop-text.invariant.left c.in_ok-put_line.ensures;
 }

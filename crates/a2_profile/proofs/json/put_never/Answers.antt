@@ -2,7 +2,7 @@ use Rattle.a2_stream.proofs.Joined.{broke_off}
 use Rattle.a2_page.proofs.Sending.{left_more, left_broke_off}
 use Rattle.std.proofs.Common.{ap, sym, codes, ◌∙◌}
 use Rattle.a2_profile.specs.Json.{never_numbers, never_array}
-use Rattle.a2_profile.proofs.ItemLaws.{behind, left_items, left_same, behind-next, numbers-next, numbers-skip}
+use Rattle.a2_profile.proofs.ItemLaws.{following, left_items, left_same, following-next, numbers-next, numbers-skip}
 use Rattle.a2_profile.proofs.json.put_never.Goals as goal
 use Rattle.a2_profile.proofs.json.put_never.Goals.{then-is_never_done+in_ok-put_number, else-is_never_done}
 
@@ -19,7 +19,7 @@ loop-statement-init g c =
 pub returns-in_err-put_number : goal.returns-in_err-put_number
 returns-in_err-put_number g c =
     left_broke_off _ _ _ c.from_residual-in_err-put_number.result _ _ _ _ c.from_residual-in_err-put_number.ensures.0
-    (behind-next c.loop-statement.front.now _ _ _
+    (following-next c.loop-statement.front.now _ _ _
     (numbers-next c.args.profile.now c.args.statements.now c.loop-statement.statement-index _ c.loop-statement-test.true (sym c.is_never_done.ensures ∙ c.if-is_never_done.true)))
     c.loop-statement.invariant c.in_err-put_number.ensures
 
@@ -27,13 +27,13 @@ pub loop-statement-preserved : goal.loop-statement-preserved
 loop-statement-preserved g c = elim c.if-is_never_done.branch [
   | then-is_never_done+in_ok-put_number w ↦ rw (w.writer-is, w.front-is) (
       left_more _ _ _ _ _ _ _
-      (behind-next c.loop-statement.front.now _ _ _
+      (following-next c.loop-statement.front.now _ _ _
       (numbers-next c.args.profile.now c.args.statements.now c.loop-statement.statement-index _ c.loop-statement-test.true (sym c.is_never_done.ensures ∙ w.if-is_never_done.true)))
       c.loop-statement.invariant w.in_ok-put_number.ensures
       )
   | else-is_never_done w ↦ rw (w.writer-is, w.front-is) (
       left_same _ _ _ _ _
-      (ap (behind c.loop-statement.front.now)
+      (ap (following c.loop-statement.front.now)
       (numbers-skip c.args.profile.now c.args.statements.now c.loop-statement.statement-index _ c.loop-statement-test.true (sym c.is_never_done.ensures ∙ w.if-is_never_done.false)))
       c.loop-statement.invariant
       )

@@ -8,7 +8,7 @@ use Rattle.a2_profile.proofs.source.profile_source.Goals as goal
 
 pub returns-in_err-texts-clause-meaning : goal.returns-in_err-texts-clause-meaning
 returns-in_err-texts-clause-meaning g c =
-    let fault = err_from_is_err_and c.from_residual-in_err-texts.result c.from_residual-in_err-texts.ensures.1 in
+    let fault = err_from_is_err_and c.from_residual.result c.from_residual.ensures.1 in
     rw (fault.1, fault.2) (Sends-nil (g.W.Output.taker c.args.writer.now))
 
 pub returns-in_err-profile-clause-meaning : goal.returns-in_err-profile-clause-meaning
@@ -19,20 +19,20 @@ returns-in_err-profile-clause-meaning g c =
 pub returns-in_err-put_profile-clause-meaning : goal.returns-in_err-put_profile-clause-meaning
 returns-in_err-put_profile-clause-meaning g c =
     let fault = err_from_is_err_and c.from_residual-in_err-put_profile.result c.from_residual-in_err-put_profile.ensures.1 in
-    let program = c.in_ok-program.program in
+    let program = c.program-program.result.now in
     let counts = c.in_ok-profile.profile in
-    let shown : map (λ x. x.now) c.as_slice-lines.result.now ≡ lines c.args.source.now = ap (map (λ x. x.now)) c.as_slice-lines.ensures.value ∙ c.in_ok-texts.ensures in
+    let shown : map (λ x. x.now) c.as_slice-lines.result.now ≡ lines c.args.assembled.now.text = ap (map (λ x. x.now)) c.as_slice-lines.ensures.value ∙ c.in_ok-texts.ensures ∙ ap lines c.text.ensures in
     rw (fault.1, fault.2) (
       c.in_ok-profile.causes,
-      profile_text c.args.format c.args.name.now program (map (λ x. x.now) c.as_slice-lines.result.now) counts c.as_slice-ends.result.now,
+      profile_text c.args.style.format c.args.style.name.now program (map (λ x. x.now) c.as_slice-lines.result.now) counts c.as_slice-ends.result.now,
       record {
         program = program;
-        is_program = c.in_ok-program.ensures.made;
+        is_program = c.program-program.ensures.of_text;
         counts = counts;
         is_profile = c.in_ok-profile.ensures;
         output_is =
-            ap (λ (texts : List (List ℕ)). profile_text c.args.format c.args.name.now program texts counts c.as_slice-ends.result.now) shown
-            ∙ ap (λ (causes : List Cause). profile_text c.args.format c.args.name.now program (lines c.args.source.now) counts causes) c.as_slice-ends.ensures.value;
+            ap (λ (texts : List (List ℕ)). profile_text c.args.style.format c.args.style.name.now program texts counts c.as_slice-ends.result.now) shown
+            ∙ ap (λ (causes : List Cause). profile_text c.args.style.format c.args.style.name.now program (lines c.args.assembled.now.text) counts causes) c.as_slice-ends.ensures.value;
       },
       c.in_err-put_profile.ensures,
     )

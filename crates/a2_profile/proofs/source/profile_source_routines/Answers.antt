@@ -7,23 +7,23 @@ use Rattle.a2_profile.proofs.source.profile_source_routines.Goals as goal
 
 pub returns-in_err-profile-clause-meaning : goal.returns-in_err-profile-clause-meaning
 returns-in_err-profile-clause-meaning g c =
-    let fault = err_from_is_err_and c.from_residual-in_err-profile.result c.from_residual-in_err-profile.ensures.1 in
+    let fault = err_from_is_err_and c.from_residual.result c.from_residual.ensures.1 in
     rw (fault.1, fault.2) (Sends-nil (g.W.Output.taker c.args.writer.now))
 
 pub returns-in_err-put_routines-clause-meaning : goal.returns-in_err-put_routines-clause-meaning
 returns-in_err-put_routines-clause-meaning g c =
     let fault = err_from_is_err_and c.from_residual-in_err-put_routines.result c.from_residual-in_err-put_routines.ensures.1 in
-    let program = c.in_ok-program.program in
+    let program = c.program-program.result.now in
     let totals = c.in_ok-profile.profile in
     rw (fault.1, fault.2) (
       c.in_ok-profile.causes,
-      routines_text c.args.format c.args.name.now program totals c.as_slice.result.now,
+      routines_text c.args.style.format c.args.style.name.now program totals c.as_slice.result.now,
       record {
         program = program;
-        is_program = c.in_ok-program.ensures.made;
+        is_program = c.program-program.ensures.of_text;
         totals = totals;
         is_profile = c.in_ok-profile.ensures;
-        output_is = ap (λ (causes : List Cause). routines_text c.args.format c.args.name.now program totals causes) c.as_slice.ensures.value;
+        output_is = ap (λ (causes : List Cause). routines_text c.args.style.format c.args.style.name.now program totals causes) c.as_slice.ensures.value;
       },
       c.in_err-put_routines.ensures,
     )

@@ -3,7 +3,7 @@ use Rattle.a2_page.proofs.Sending.{IsLeft}
 use Rattle.a2_profile.specs.Table.{line_rows}
 use Rattle.a2_profile.proofs.table.put_lines.Given as goal
 
--- the rows of the lines so far went out
+-- the rows of the lines so far were written
 abbrev pub invariant-loop-text : goal.invariant-loop-text
 invariant-loop-text g l = record {
   counted : l.number ≡ l.text-index + 1;

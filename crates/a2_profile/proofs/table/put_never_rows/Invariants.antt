@@ -3,7 +3,7 @@ use Rattle.a2_page.proofs.Sending.{IsLeft}
 use Rattle.a2_profile.specs.Table.{never_rows}
 use Rattle.a2_profile.proofs.table.put_never_rows.Given as goal
 
--- the rows of the statements so far went out
+-- the rows of the statements so far were written
 abbrev pub invariant-loop-statement : goal.invariant-loop-statement
 invariant-loop-statement g l =
     IsLeft (g.W.Output.taker l.fn.writer) (g.W.Output.taker l.writer)

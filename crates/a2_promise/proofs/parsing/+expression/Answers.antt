@@ -91,9 +91,9 @@ conditional-returns-then-not-took t c = λ before h.
 pub joined-returns-in_ok-number_in-in-Compare : goal.joined-returns-in_ok-number_in-in-Compare
 joined-returns-in_ok-number_in-in-Compare t c = λ before e r l f below.
     let is = c.in-Compare.is in
-    let left = c.in_ok-before_compared-in-Compare.ensures in
-    rw is (if_ok c.behind_compared.result (λ piece. compared_read c.in-Compare.relation r l (rw is at (c.take.ensures _ f)) left.first left.more
-    c.count-begun.ensures c.in_ok-number_in-in-Compare.ensures) c.behind_compared.ensures)
+    let left = c.in_ok-begin_second_number-in-Compare.ensures in
+    rw is (if_ok c.end_comparison.result (λ piece. compared_read c.in-Compare.relation r l (rw is at (c.take.ensures _ f)) left.first left.more
+    c.count-begun.ensures c.in_ok-number_in-in-Compare.ensures) c.end_comparison.ensures)
 
 pub joined-returns-in_ok-puts-in-Apply : goal.joined-returns-in_ok-puts-in-Apply
 joined-returns-in_ok-puts-in-Apply t c = λ before e r l f below.
@@ -107,7 +107,7 @@ joined-returns-in_ok-puts-in-Or-2 t c = λ before e r l f below.
     let join = c.args.join in
     let limit = limit_of c.saturating_add-rank.result c.rank_of.result join c.rank_of.ensures below c.saturating_add-rank.ensures in
     logic_read join c.in-Or.is _ e before _ _ _ _ _ r (rw l.kind c.in_ok-fact-in-Or.ensures) (c.take.ensures _ f) (rw c.joining.ensures.before at c.in_ok-puts-in-Or.ensures)
-    (rw limit at c.in_ok-fact_in-in-Or.ensures) (rw c.joining.ensures.behind at c.in_ok-puts-in-Or-2.ensures)
+    (rw limit at c.in_ok-fact_in-in-Or.ensures) (rw c.joining.ensures.following at c.in_ok-puts-in-Or-2.ensures)
     (c.at-in-Or.ensures.kind ∙ logic_kind join c.in-Or.is) c.at-in-Or.ensures.last
 
 pub expression-loop-join-init : goal.expression-loop-join-init

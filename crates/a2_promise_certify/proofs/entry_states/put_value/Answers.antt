@@ -1,7 +1,7 @@
 use Rattle.std.proofs.Common.{ap, sym, subst, ◌∙◌, arith}
 use Rattle.a2_effect.specs.View.{registers_of}
 use Rattle.a2_services.specs.World.{world_of}
-use Rattle.a2_promise_certify.specs.But.{IsBut}
+use Rattle.a2_promise_certify.specs.But.{IsEqualExcept}
 use Rattle.a2_promise_certify.specs.States.{is_byte, with_value}
 use Rattle.a2_promise_certify.proofs.But.{stored_one}
 use Rattle.a2_promise_certify.proofs.Putting.{byte_put}
@@ -15,6 +15,6 @@ returns-in-Byte-clause-world c = λ _.
 
 pub returns-in-Byte-clause-rest : goal.returns-in-Byte-clause-rest
 returns-in-Byte-clause-rest c =
-    subst (λ input. IsBut (λ a. is_byte a input) c.write.new.self c.args.space.now) (sym c.in-Byte.is)
+    subst (λ input. IsEqualExcept (λ a. is_byte a input) c.write.new.self c.args.space.now) (sym c.in-Byte.is)
     (stored_one c.args.space.now c.write.new.self c.in-Byte.address c.args.value
     (omega (arith, c.if-address-ge-RAM_END.false, c.write.ensures.size)) c.write.ensures.left)

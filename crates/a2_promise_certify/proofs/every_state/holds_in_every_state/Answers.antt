@@ -3,8 +3,8 @@ use Rattle.std.specs.List.{list_any}
 use Rattle.std.proofs.Common.{sym, ◌∙◌, subst}
 use Rattle.a2_hex.specs.Images.{held}
 use Rattle.a2_bus.specs.Memory.{ram_end}
-use Rattle.a2_footprint.specs.Turned.{in_stack}
-use Rattle.a2_promise_certify.specs.Certifying.{AreLaid}
+use Rattle.a2_footprint.specs.RotatedStack.{in_stack}
+use Rattle.a2_promise_certify.specs.Certifying.{AreMarkedWhere}
 use Rattle.a2_promise_certify.specs.Settling.{AreSettled}
 use Rattle.a2_promise_certify.specs.States.{is_byte}
 use Rattle.a2_promise_certify.proofs.Trying.{in_every_world}
@@ -19,6 +19,6 @@ returns c = λ is.
     (subst (λ clauses. AreSettled clauses inputs inputs c.as_slice-free.result.now c.load.new.self c.settle.new.space) c.as_slice.ensures.value
     (subst (λ free. AreSettled c.as_slice.result.now inputs inputs free c.load.new.self c.settle.new.space) (sym c.as_slice-free.ensures.value)
     c.in_ok-unsettled.ensures))
-    (subst (λ marks. AreLaid (λ a. (list_any (is_byte a) inputs || is_some (held c.args.image.now a)) && not (in_stack a)) marks ram_end)
+    (subst (λ marks. AreMarkedWhere (λ a. (list_any (is_byte a) inputs || is_some (held c.args.image.now a)) && not (in_stack a)) marks ram_end)
     (sym c.as_slice-2.ensures.value) c.in_ok-known.ensures)
     c.parts_at-parts.ensures c.promises_hold_everywhere.ensures c.in-Some.states c.in-Some.ensures (c.are_tried.ensures is)

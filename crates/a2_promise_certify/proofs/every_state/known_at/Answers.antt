@@ -2,8 +2,8 @@ use Rattle.std.specs.Prelude.{ℕ, ◌||◌, ◌&&◌, ◌+◌, Bool, not, is_so
 use Rattle.std.specs.List.{list_any}
 use Rattle.std.proofs.Common.{sym, subst, arith}
 use Rattle.a2_hex.specs.Images.{held}
-use Rattle.a2_footprint.specs.Turned.{in_stack}
-use Rattle.a2_promise_certify.specs.Certifying.{AreLaid}
+use Rattle.a2_footprint.specs.RotatedStack.{in_stack}
+use Rattle.a2_promise_certify.specs.Certifying.{AreMarkedWhere}
 use Rattle.a2_promise_certify.specs.States.{is_byte}
 use Rattle.a2_promise_certify.proofs.Putting.{all_laid, none_laid, one_laid}
 use Rattle.a2_promise_certify.proofs.every_state.known_at.Goals as goal
@@ -15,7 +15,7 @@ loop-address-init c =
 pub loop-address-preserved : goal.loop-address-preserved
 loop-address-preserved c =
     let test : ℕ → Bool = λ a. (list_any (is_byte a) c.args.inputs.now || is_some (held c.args.image.now a)) && not (in_stack a) in
-    subst (λ marks. AreLaid test marks (c.loop-address.address + 1)) (sym c.in_ok-push.ensures.items)
+    subst (λ marks. AreMarkedWhere test marks (c.loop-address.address + 1)) (sym c.in_ok-push.ensures.items)
     (one_laid test c.loop-address.known.items c.loop-address.address c.is_known_at.result (omega (arith, c.loop-address-test.true))
     c.is_known_at.ensures c.loop-address.invariant)
 

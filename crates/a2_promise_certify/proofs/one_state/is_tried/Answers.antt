@@ -4,7 +4,7 @@ use Rattle.a2_bus.specs.View.{memory_of}
 use Rattle.a2_effect.specs.View.{registers_of}
 use Rattle.a2_services.specs.World.{world_of}
 use Rattle.a2_promise.specs.Values.{moment_of}
-use Rattle.a2_promise_certify.specs.But.{IsBut}
+use Rattle.a2_promise_certify.specs.But.{IsEqualExcept}
 use Rattle.a2_promise_certify.specs.Kept.{bytes_of, known_by}
 use Rattle.a2_promise_certify.specs.Looking.{known_of}
 use Rattle.a2_promise_certify.specs.Walking.{is_set, known_now, knows_part}
@@ -23,7 +23,7 @@ returns-then-not-all_hold-clause-tried c = λ _.
     (moment_of c.view_of_entry-entry.result.sight)
     (c.view_of_entry-entry.ensures.moment
     ∙ (λ i. record { registers = registers_of walk.regs; bytes = bytes_of (memory_of (c.requires.space i)); cycles = 0; steps = 0 }))
-    (c.look_at_known.ensures c.if-not-look_at_known.false)
+    (c.are_clauses_known.ensures c.if-not-are_clauses_known.false)
     (λ holds. absurd (true≢false (sym holds ∙ sym c.all_hold.ensures ∙ c.if-not-all_hold.true)))
 
 pub returns-clause-tried : goal.returns-clause-tried
@@ -37,10 +37,10 @@ returns-clause-tried c = λ is.
     (moment_of c.view_of_entry-entry.result.sight)
     (c.view_of_entry-entry.ensures.moment
     ∙ (λ i. record { registers = registers_of walk.regs; bytes = bytes_of (memory_of (c.requires.space i)); cycles = 0; steps = 0 }))
-    (c.look_at_known.ensures c.if-not-look_at_known.false)
+    (c.are_clauses_known.ensures c.if-not-are_clauses_known.false)
     (λ holds. c.is_kept.ensures.kept is)
 
 pub returns-then-not-all_hold-clause-rest : goal.returns-then-not-all_hold-clause-rest
 returns-then-not-all_hold-clause-rest c = λ _ _.
     let walk = c.args.walk.now in
-    subst (λ (b : BusState). IsBut (is_set c.args.stored.now) walk.space b) (sym c.requires.space) (itself (is_set c.args.stored.now) walk.space)
+    subst (λ (b : BusState). IsEqualExcept (is_set c.args.stored.now) walk.space b) (sym c.requires.space) (itself (is_set c.args.stored.now) walk.space)

@@ -23,11 +23,11 @@ returns c = λ is.
     c.masked-next.ensures ∙ under_mask c.args.second c.load-mask.result n (mask_kept c.args.first m ∙ mask) in
     let put : after_put_unmasked c.masked-put.result m ≡ n =
     ap (λ b. after_put_unmasked b m) first ∙ sym (put_masked c.args.first m) in
-    let behind : IsCursor c.behind.result n =
-    subst (IsCursor c.behind.result) put (c.behind.ensures.cursor m c.cursor_in-cursor.ensures) in (
+    let following : IsCursor c.following.result n =
+    subst (IsCursor c.following.result) put (c.following.ensures.cursor m c.cursor_in-cursor.ensures) in (
       sym c.is_known_now.ensures ∙ c.if-not-is_known_now.false,
       knows_both known (put_moves c.args.first m) (put_moves c.args.second n)
           (subst (λ b. Knows known (moved_by b m)) first
           (c.are_moved_known.ensures c.if-not-are_moved_known.false m c.cursor_in-cursor.ensures))
-          (subst (λ b. Knows known (moved_by b n)) second (c.are_moved_known-2.ensures is n behind)),
+          (subst (λ b. Knows known (moved_by b n)) second (c.are_moved_known-2.ensures is n following)),
     )

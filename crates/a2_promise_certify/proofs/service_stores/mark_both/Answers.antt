@@ -19,9 +19,9 @@ returns-then-mark_output c = λ is.
     c.masked-next.ensures ∙ under_mask c.args.second c.load-mask.result n (mask_kept c.args.first m ∙ mask) in
     let put : after_put_unmasked c.masked.result m ≡ n =
     ap (λ b. after_put_unmasked b m) (c.masked.ensures ∙ under_mask c.args.first c.load-mask.result m mask) ∙ sym (put_masked c.args.first m) in
-    let behind : IsCursor c.behind-behind_first.result n =
-    subst (IsCursor c.behind-behind_first.result) put (c.behind-behind_first.ensures.cursor m c.in-Some.ensures.0) in
+    let following : IsCursor c.following-after_first_one.result n =
+    subst (IsCursor c.following-after_first_one.result) put (c.following-after_first_one.ensures.cursor m c.in-Some.ensures.0) in
     both_marked c.args.stored.now c.mark_output.new.stored c.mark_put.new.stored c.args.changes.now
     (put_changes c.args.first m) (put_changes c.args.second n) (c.mark_output.ensures c.if-mark_output.true)
     (subst (λ b. AreMarked c.mark_output.new.stored c.mark_put.new.stored c.args.changes.now (changed_by b n)) next
-    (c.mark_put.ensures is n behind))
+    (c.mark_put.ensures is n following))

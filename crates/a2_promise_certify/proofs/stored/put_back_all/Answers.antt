@@ -2,7 +2,7 @@ use Rattle.std.specs.Prelude.{ℕ, List, ◌+◌, drop}
 use Rattle.std.proofs.Common.{subst}
 use Rattle.std.proofs.lemmas.List.{drop_all, drop_more}
 use Rattle.a2_text.specs.Bytes.{is_among}
-use Rattle.a2_promise_certify.specs.But.{IsBut}
+use Rattle.a2_promise_certify.specs.But.{IsEqualExcept}
 use Rattle.a2_promise_certify.proofs.But.{Covers, same}
 use Rattle.a2_promise_certify.proofs.stored.put_back_all.Goals as goal
 
@@ -13,12 +13,12 @@ loop-address-preserved c =
     let rest : List ℕ = drop (i + 1) places in
     let more = drop_more places i _ c.loop-address-test.true in (
       λ but. c.put_back.ensures (is_among rest)
-          (subst (λ ns. IsBut (is_among ns) c.loop-address.space c.args.before.now) more (c.loop-address.invariant.0 but)),
+          (subst (λ ns. IsEqualExcept (is_among ns) c.loop-address.space c.args.before.now) more (c.loop-address.invariant.0 but)),
       λ covers. c.clear.ensures rest (subst (λ ns. Covers ns c.loop-address.marks) more (c.loop-address.invariant.1 covers)),
     )
 
 pub returns-clause-space : goal.returns-clause-space
 returns-clause-space c = λ but.
     same c.loop-address.space c.args.before.now
-    (subst (λ ns. IsBut (is_among ns) c.loop-address.space c.args.before.now)
+    (subst (λ ns. IsEqualExcept (is_among ns) c.loop-address.space c.args.before.now)
     (drop_all c.loop-address.address-index c.args.places.now c.loop-address-test.false) (c.loop-address.invariant.0 but))

@@ -2,7 +2,7 @@ use Rattle.std.specs.Prelude.{refl}
 use Rattle.std.specs.List.{list_all}
 use Rattle.std.proofs.Common.{sym, ap, ◌∙◌, subst₂}
 use Rattle.a2_effect.specs.View.{registers_of}
-use Rattle.a2_services.specs.Called.{IsCallMade}
+use Rattle.a2_services.specs.Called.{IsCallExecuted}
 use Rattle.a2_footprint.specs.Parts.{with_parts}
 use Rattle.a2_promise_certify.specs.Walking.{knows_part}
 use Rattle.a2_promise_certify.proofs.Called.{is_step}
@@ -11,8 +11,8 @@ use Rattle.a2_promise_certify.proofs.walk.serve.Goals as goal
 pub returns : goal.returns
 returns c =
     let walk = c.args.walk.now in
-    let made : IsCallMade c.in_ok-service.service (registers_of walk.regs) walk.space (registers_of c.regs-walk.result) c.call.new.space c.in-Next.cycles =
-    subst₂ (λ r q. IsCallMade c.in_ok-service.service r walk.space q c.call.new.space c.in-Next.cycles)
+    let made : IsCallExecuted c.in_ok-service.service (registers_of walk.regs) walk.space (registers_of c.regs-walk.result) c.call.new.space c.in-Next.cycles =
+    subst₂ (λ r q. IsCallExecuted c.in_ok-service.service r walk.space q c.call.new.space c.in-Next.cycles)
     c.of-live.ensures.registers (sym c.regs-walk.ensures.registers) c.in-Next.ensures.called in record {
       step = is_step c.in_ok-service.service (registers_of walk.regs) walk.space (sym c.service_at.ensures ∙ c.in_ok-service.was)
           (sym c.is_keyless.ensures ∙ c.if-not-is_keyless.false)

@@ -3,7 +3,7 @@ use Rattle.a2_scripts.proofs.Replying.{front-nil, front-more, front-broke-echo, 
 use Rattle.a2_scripts.proofs.answering.answer_all.Goals as goal
 
 pub loop-line-init : goal.loop-line-init
-loop-line-init g c = front-nil c.requires.begun
+loop-line-init g c = front-nil c.requires.debugger_at_start
 
 pub returns-in_err-put_all : goal.returns-in_err-put_all
 returns-in_err-put_all g c =

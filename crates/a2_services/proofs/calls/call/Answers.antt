@@ -6,21 +6,21 @@ use Rattle.a2_effect.specs.Live.{live_registers}
 use Rattle.a2_effect.specs.declared.live.Live.{Live}
 use Rattle.a2_services.specs.declared.rows.Service.{Service}
 use Rattle.a2_services.specs.declared.rows.Service.TheVariants.{Cout, Cout1, Crout, Rdkey, Plot, Home}
-use Rattle.a2_services.specs.Called.{IsCallMade, IsDone, IsUnreached}
+use Rattle.a2_services.specs.Called.{IsCallExecuted, IsDone, KeepsUnreachedBytes}
 use Rattle.a2_services.proofs.Serving.{call_made}
 use Rattle.a2_services.proofs.Unreached.{unreached_by, fewer_by}
 use Rattle.a2_services.proofs.calls.call.Goals as goal
 
 -- everything that is promised of an executed call
 record IsPromised (service : Service) (live new_live : Live) (bus new_bus : BusState) (taken : ℕ) : Type 0 where
-  called : IsCallMade service (live_registers live) bus (live_registers new_live) new_bus taken
+  called : IsCallExecuted service (live_registers live) bus (live_registers new_live) new_bus taken
   cycles : new_live.cycles ≡ live.cycles
-  unreached : IsUnreached service bus new_bus
+  unreached : KeepsUnreachedBytes service bus new_bus
   size : length new_bus.bytes ≡ length bus.bytes
   keys : length new_bus.devices.keys ≤ length bus.devices.keys
 
 promised : (service : Service) (live new_live : Live) (bus new_bus : BusState) (taken : ℕ) → length bus.bytes ≡ ram_end
-    → IsDone service live bus new_live new_bus → IsCallMade service (live_registers live) bus (live_registers new_live) new_bus taken
+    → IsDone service live bus new_live new_bus → IsCallExecuted service (live_registers live) bus (live_registers new_live) new_bus taken
     → IsPromised service live new_live bus new_bus taken
 promised service live new_live bus new_bus taken size done made = record {
   called = made;

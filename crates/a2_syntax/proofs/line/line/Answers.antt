@@ -10,33 +10,33 @@ returns-then-is_starred g c = starred c.args.text.now (sym c.is_starred.ensures 
 
 pub returns-then-not-is_gap : goal.returns-then-not-is_gap
 returns-then-not-is_gap g c = λ line h.
-    (let (gap, _, _, _) = line-parts c.args.text.now _ _ (sym c.is_starred.ensures ∙ c.if-is_starred.false) c.front_run.ensures.word c.front_run.ensures.rest line h in
+    (let (gap, _, _, _) = line-parts c.args.text.now _ _ (sym c.is_starred.ensures ∙ c.if-is_starred.false) c.split_name_bytes.ensures.word c.split_name_bytes.ensures.rest line h in
     false≢true (sym c.if-not-is_gap.true ∙ c.is_gap.ensures ∙ gap))
 
 pub body-requires : goal.body-requires
-body-requires g c = omega (arith, ap length c.front_run.ensures.rest, length-drop (run_len c.args.text.now) c.args.text.now, c.requires)
+body-requires g c = omega (arith, ap length c.split_name_bytes.ensures.rest, length-drop (run_len c.args.text.now) c.args.text.now, c.requires)
 
 pub returns-in_default : goal.returns-in_default
 returns-in_default g c = λ line h.
-    (let (_, _, body, _) = line-parts c.args.text.now _ _ (sym c.is_starred.ensures ∙ c.if-is_starred.false) c.front_run.ensures.word c.front_run.ensures.rest line h in
+    (let (_, _, body, _) = line-parts c.args.text.now _ _ (sym c.is_starred.ensures ∙ c.if-is_starred.false) c.split_name_bytes.ensures.word c.split_name_bytes.ensures.rest line h in
     (rw c.in_default.is at c.in_ok-body.ensures) line.body body)
 
 pub returns-then-needs_label : goal.returns-then-needs_label
 returns-then-needs_label g c = λ line h.
-    (let (_, word, body, fits) = line-parts c.args.text.now _ _ (sym c.is_starred.ensures ∙ c.if-is_starred.false) c.front_run.ensures.word c.front_run.ensures.rest line h in
-    unlabelled _ line c.in-Some.body (rw (nil_from_length c.front_run.result.0.now c.if-word-eq0.true) at word) body (rw c.in-Some.is at c.in_ok-body.ensures) fits (not-true _ (sym c.needs_label.ensures ∙ c.if-needs_label.true)))
+    (let (_, word, body, fits) = line-parts c.args.text.now _ _ (sym c.is_starred.ensures ∙ c.if-is_starred.false) c.split_name_bytes.ensures.word c.split_name_bytes.ensures.rest line h in
+    unlabelled _ line c.in-Some.body (rw (nil_from_length c.split_name_bytes.result.0.now c.if-word-eq0.true) at word) body (rw c.in-Some.is at c.in_ok-body.ensures) fits (not-true _ (sym c.needs_label.ensures ∙ c.if-needs_label.true)))
 
 pub returns-then-word-eq0 : goal.returns-then-word-eq0
 returns-then-word-eq0 g c =
-    line-from c.args.text.now _ _ None c.in-Some.body c.front_run.ensures.word c.front_run.ensures.rest (sym c.is_gap.ensures ∙ c.if-not-is_gap.false)
-    (nil_from_length c.front_run.result.0.now c.if-word-eq0.true) (rw c.in-Some.is at c.in_ok-body.ensures) (not-false _ (sym c.needs_label.ensures ∙ c.if-needs_label.false))
+    line-from c.args.text.now _ _ None c.in-Some.body c.split_name_bytes.ensures.word c.split_name_bytes.ensures.rest (sym c.is_gap.ensures ∙ c.if-not-is_gap.false)
+    (nil_from_length c.split_name_bytes.result.0.now c.if-word-eq0.true) (rw c.in-Some.is at c.in_ok-body.ensures) (not-false _ (sym c.needs_label.ensures ∙ c.if-needs_label.false))
 
 pub returns-then-not-is_name : goal.returns-then-not-is_name
 returns-then-not-is_name g c = λ line h.
-    (let (_, word, _, _) = line-parts c.args.text.now _ _ (sym c.is_starred.ensures ∙ c.if-is_starred.false) c.front_run.ensures.word c.front_run.ensures.rest line h in
+    (let (_, word, _, _) = line-parts c.args.text.now _ _ (sym c.is_starred.ensures ∙ c.if-is_starred.false) c.split_name_bytes.ensures.word c.split_name_bytes.ensures.rest line h in
     unnamed _ line.label word c.if-word-eq0.false (sym c.is_name.ensures ∙ c.if-not-is_name.true))
 
 pub returns : goal.returns
 returns g c =
-    line-from c.args.text.now _ _ (Some c.in_ok-name_of.field-0) c.in-Some.body c.front_run.ensures.word c.front_run.ensures.rest (sym c.is_gap.ensures ∙ c.if-not-is_gap.false)
+    line-from c.args.text.now _ _ (Some c.in_ok-name_of.field-0) c.in-Some.body c.split_name_bytes.ensures.word c.split_name_bytes.ensures.rest (sym c.is_gap.ensures ∙ c.if-not-is_gap.false)
     (c.in_ok-name_of.ensures, sym c.is_name.ensures ∙ c.if-not-is_name.false) (rw c.in-Some.is at c.in_ok-body.ensures) refl

@@ -5,7 +5,7 @@ use Rattle.a2_syntax.proofs.operand.indexed.Goals as goal
 
 pub returns-then-is_letter-clause-is : goal.returns-then-is_letter-clause-is
 returns-then-is_letter-clause-is c =
-    rw (c.in_ok-last.ensures.cases.0, map_push, before_push, ← c.is_letter.ensures, c.if-is_letter.true) c.front_of.ensures.is
+    rw (c.in_ok-last.ensures.cases.0, map_push, before_push, ← c.is_letter.ensures, c.if-is_letter.true) c.before_last.ensures.is
 
 pub returns-else-is_letter-clause-is : goal.returns-else-is_letter-clause-is
 returns-else-is_letter-clause-is c =

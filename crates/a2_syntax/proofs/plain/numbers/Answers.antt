@@ -8,12 +8,12 @@ numbers-init g c = record { reads = rw c.in_ok-found.ensures.items (record { bac
 
 pub returns-then-is_over : goal.returns-then-is_over
 returns-then-is_over g c =
-    let placed = place c.numbers.rest.now c.behind_blanks.ensures c.front_run.ensures.word c.front_run.ensures.rest (sym c.number.ensures ∙ c.in-Some.is) c.behind_blanks-next.ensures in
+    let placed = place c.numbers.rest.now c.after_blanks.ensures c.split_name_bytes.ensures.word c.split_name_bytes.ensures.rest (sym c.number.ensures ∙ c.in-Some.is) c.after_blanks-next.ensures in
     rw (c.of.ensures, c.in_ok-push.ensures.items, c.in_ok-one_number.ensures) (numbers-end placed c.numbers.invariant.reads (sym c.is_over.ensures ∙ c.if-is_over.true))
 
 pub numbers-preserved : goal.numbers-preserved
 numbers-preserved g c =
-    let placed = place c.numbers.rest.now c.behind_blanks.ensures c.front_run.ensures.word c.front_run.ensures.rest (sym c.number.ensures ∙ c.in-Some.is) c.behind_blanks-next.ensures in
+    let placed = place c.numbers.rest.now c.after_blanks.ensures c.split_name_bytes.ensures.word c.split_name_bytes.ensures.rest (sym c.number.ensures ∙ c.in-Some.is) c.after_blanks-next.ensures in
     let comma = c.in-Some-split_first.ensures.cases.0 ∙ ap (λ k. k ∷ c.in-Some-split_first.more.now) c.if-sign-ne44.false in
     record {
       reads = rw (c.in_ok-push.ensures.items, c.in_ok-one_number.ensures) (numbers-more placed c.numbers.invariant.reads comma);

@@ -2,7 +2,7 @@ use Rattle.a2_machine.specs.State.{code_of, world_of_state}
 use Rattle.a2_trace.proofs.Drawing.{IsDrawn}
 use Rattle.a2_trace.proofs.calls.draw_run.Given as goal
 
--- the steps so far are made, and their rows went out
+-- the steps so far are executed, and their rows were written
 abbrev pub invariant-loop : goal.invariant-loop
 invariant-loop g l =
     IsDrawn l.program (code_of l.fn.machine.state) (world_of_state l.fn.machine.state) (g.W.Output.taker l.fn.writer) (g.W.Output.taker l.writer) l.machine l.counter l.visits.items

@@ -3,7 +3,7 @@ use Rattle.a2_stream.specs.Stream.{Sends}
 use Rattle.a2_trace.specs.Calls.{left_rows}
 use Rattle.a2_trace.proofs.calls.put_left.Given as goal
 
--- the rows of the routines so far went out
+-- the rows of the routines so far were written
 abbrev pub invariant-loop-depth : goal.invariant-loop-depth
 invariant-loop-depth g l =
     Sends (g.W.Output.taker l.fn.writer) (g.W.Output.taker l.writer)

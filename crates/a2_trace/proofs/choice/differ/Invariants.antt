@@ -3,7 +3,7 @@ use Rattle.a2_bus.specs.View.{memory_of}
 use Rattle.a2_trace.specs.Choices.{differ_from}
 use Rattle.a2_trace.proofs.choice.differ.Given as goal
 
--- whether the memories differ is whether they do from the address on
+-- the memories differ if and only if they differ from the address on
 abbrev pub invariant-loop-address : goal.invariant-loop-address
 invariant-loop-address g l =
     (l.fn.span.first ≤ l.address)

@@ -24,9 +24,9 @@ returns-in_err-cause-clause-meaning g c =
     let fault = err_from_is_err_and c.from_residual-in_err-cause.result c.from_residual-in_err-cause.ensures.1 in
     let (cause, output, is, broke) = c.in_err-cause.ensures in
     rw (fault.1, fault.2)
-    (cause, output, trace-of c.args.choice.now c.in_ok-skip.skip c.args.source.now c.args.keys.now c.args.limit c.args.free c.in_ok-program.program c.in_ok-machine.machine.state c.in_ok-program.ensures.made c.in_ok-machine.ensures c.in_ok-skip.ensures cause output is, broke)
+    (cause, output, trace-of c.args.choice.now c.in_ok-skip.skip c.args.assembled.now.text c.args.run.keys.now c.args.run.limit c.args.run.free c.program-program.result.now c.in_ok-machine.machine.state c.program-program.ensures.of_text c.in_ok-machine.ensures c.in_ok-skip.ensures cause output is, broke)
 
 pub returns-clause-meaning : goal.returns-clause-meaning
 returns-clause-meaning g c =
     let (output, is, sent) = c.in_ok-cause.ensures in
-    (output, trace-of c.args.choice.now c.in_ok-skip.skip c.args.source.now c.args.keys.now c.args.limit c.args.free c.in_ok-program.program c.in_ok-machine.machine.state c.in_ok-program.ensures.made c.in_ok-machine.ensures c.in_ok-skip.ensures _ output is, sent)
+    (output, trace-of c.args.choice.now c.in_ok-skip.skip c.args.assembled.now.text c.args.run.keys.now c.args.run.limit c.args.run.free c.program-program.result.now c.in_ok-machine.machine.state c.program-program.ensures.of_text c.in_ok-machine.ensures c.in_ok-skip.ensures _ output is, sent)

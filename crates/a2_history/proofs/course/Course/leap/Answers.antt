@@ -10,21 +10,21 @@ pub returns-clause-on : goal.returns-clause-on
 returns-clause-on g c =
     let same : c.as_slice.result.now ≡ c.args.self.now.log = c.as_slice.ensures.value ∙ ap (λ (k : Course). k.log) c.self.view_is in
     let same_too : c.as_slice-2.result.now ≡ c.args.self.now.log = c.as_slice-2.ensures.value ∙ ap (λ (k : Course). k.log) c.self.view_is in
-    burst-on c.args.self.now _ c.quiet_end-quiet.result c.args.machine.now c.burst.new.machine c.type_logged.new.machine
+    burst-on c.args.self.now _ c.next_typed_position-quiet.result c.args.machine.now c.burst.new.machine c.type_logged.new.machine
     (record { world = c.requires.on.world; went = c.requires.on.went }) c.requires.guard c.in_default.ensures.made
-    (subst (λ (xs : List Typed). IsQuiet xs c.args.machine.now.state.steps c.quiet_end-quiet.result) same
-    (subst (λ n. IsQuiet c.as_slice.result.now n c.quiet_end-quiet.result) c.steps-from.ensures c.quiet_end-quiet.ensures.quiet))
-    (omega (arith, c.steps-from.ensures, c.quiet_end-quiet.ensures.ahead))
+    (subst (λ (xs : List Typed). IsQuiet xs c.args.machine.now.state.steps c.next_typed_position-quiet.result) same
+    (subst (λ n. IsQuiet c.as_slice.result.now n c.next_typed_position-quiet.result) c.steps-from.ensures c.next_typed_position-quiet.ensures.quiet))
+    (omega (arith, c.steps-from.ensures, c.next_typed_position-quiet.ensures.ahead))
     (subst (λ (xs : List Typed). IsTypedBy xs c.burst.new.machine.state c.type_logged.new.machine.state) same_too c.type_logged.ensures)
 
 pub returns-clause-seen : goal.returns-clause-seen
 returns-clause-seen g c =
     let same : c.as_slice.result.now ≡ c.args.self.now.log = c.as_slice.ensures.value ∙ ap (λ (k : Course). k.log) c.self.view_is in
     let same_too : c.as_slice-2.result.now ≡ c.args.self.now.log = c.as_slice-2.ensures.value ∙ ap (λ (k : Course). k.log) c.self.view_is in
-    burst-shown c.args.self.now _ c.quiet_end-quiet.result c.args.machine.now c.burst.new.machine c.type_logged.new.machine
+    burst-shown c.args.self.now _ c.next_typed_position-quiet.result c.args.machine.now c.burst.new.machine c.type_logged.new.machine
     (record { world = c.requires.on.world; went = c.requires.on.went }) c.requires.guard c.in_default.ensures.made
-    (subst (λ (xs : List Typed). IsQuiet xs c.args.machine.now.state.steps c.quiet_end-quiet.result) same
-    (subst (λ n. IsQuiet c.as_slice.result.now n c.quiet_end-quiet.result) c.steps-from.ensures c.quiet_end-quiet.ensures.quiet))
-    (omega (arith, c.steps-from.ensures, c.quiet_end-quiet.ensures.ahead))
+    (subst (λ (xs : List Typed). IsQuiet xs c.args.machine.now.state.steps c.next_typed_position-quiet.result) same
+    (subst (λ n. IsQuiet c.as_slice.result.now n c.next_typed_position-quiet.result) c.steps-from.ensures c.next_typed_position-quiet.ensures.quiet))
+    (omega (arith, c.steps-from.ensures, c.next_typed_position-quiet.ensures.ahead))
     (subst (λ (xs : List Typed). IsTypedBy xs c.burst.new.machine.state c.type_logged.new.machine.state) same_too c.type_logged.ensures)
     g.O.Observer.seen c.args.observer.now c.burst.new.observer c.burst.ensures.seen

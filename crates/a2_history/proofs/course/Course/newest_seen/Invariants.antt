@@ -9,5 +9,5 @@ invariant-loop-position g l = record {
   steps : l.machine.state.steps ≡ l.position;
   guard : l.machine.state.guard ≡ l.fn.machine.state.guard;
   further : l.fn.machine.state.steps ≤ l.position;
-  newest : IsNewest (g.S.Sight.is_seen l.sight) l.self l.fn.machine.state.steps l.position l.found;
+  newest : IsNewest (g.S.SearchTarget.is_found_in l.sight) l.self l.fn.machine.state.steps l.position l.found;
 }

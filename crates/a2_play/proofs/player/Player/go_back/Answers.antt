@@ -1,7 +1,7 @@
 use Rattle.std.proofs.Common.{◌∙◌, ◌-◌, ℕ, List, ltb, rules, subst, sym, ap}
 use Rattle.std.proofs.lemmas.Fn.{filter_same}
 use Rattle.a2_timed_keys.specs.declared.strokes.Typed.{Typed}
-use Rattle.a2_play.specs.Backs.{IsBack}
+use Rattle.a2_play.specs.Backs.{WentBack}
 use Rattle.a2_play.specs.Played.{Play, IsPlayed}
 use Rattle.a2_play.proofs.Remade.{Seeks, Brings, IsBegun, is_back, back_played}
 use Rattle.a2_play.proofs.player.Player.go_back.Goals as goal
@@ -40,7 +40,7 @@ returns-clause-back g c =
     (subst (λ (n : ℕ). Seeks c.as_slice-3.result.now c.saturating_sub-goal.result n 1 c.seek-position.result c.bring.new.machine.state
     c.seek-position.new.machine.state) end c.seek-position.ensures) in
     let goal_is = c.saturating_sub-goal.ensures ∙ ap (λ n. n - c.args.cycles) c.cycles.ensures in
-    subst (λ (p : Play). IsBack program c.args.cycles p (record { machine = c.seek-position.new.machine; log = c.retain.new.self.items })) c.self.view_is
+    subst (λ (p : Play). WentBack program c.args.cycles p (record { machine = c.seek-position.new.machine; log = c.retain.new.self.items })) c.self.view_is
     (is_back program old c.begin.new.machine c.seek-before.new.machine c.begin-2.new.machine c.bring.new.machine c.seek-position.new.machine log
     c.args.cycles c.saturating_sub-goal.result c.seek-before.result c.seek-position.result at goal_is begun again seeks brings steps
     c.retain.new.self.items c.steps-position.result c.steps-position.ensures

@@ -1,6 +1,6 @@
 use Rattle.std.proofs.Common.{inl, inr, refl}
 use Rattle.a2_promise.specs.Tokens.{tokens}
-use Rattle.a2_promise.specs.Told.{requires, ensures, changes, prints, takes, underway}
+use Rattle.a2_promise.specs.PromisedTerms.{requires, ensures, changes, prints, takes, underway}
 use Rattle.a2_promise.proofs.Laying.{on_ok, ok_always}
 use Rattle.a2_promise.proofs.Saying.{begins, fact_of, spelt_of, says, same, unchanged}
 use Rattle.a2_promise.proofs.promises.Block.take.Goals as goal

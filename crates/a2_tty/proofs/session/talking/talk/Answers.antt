@@ -1,6 +1,6 @@
 use Rattle.std.proofs.Common.{ℕ, List, subst, sym}
 use Rattle.std.proofs.lemmas.Result.{err_from_is_err_and}
-use Rattle.a2_tty.specs.Hearing.{IsTextOf}
+use Rattle.a2_tty.specs.LineReading.{IsTextOf}
 use Rattle.a2_tty.specs.Turns.{MeetsOr, IsQuit}
 use Rattle.a2_tty.proofs.Pieces.{heard-some}
 use Rattle.a2_tty.proofs.Answering.{far-nil, far-more, broke-prompt, failed, endless-lines, heard-ended, heard-broke-end, heard-quits, broke-answer}

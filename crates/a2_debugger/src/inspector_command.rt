@@ -1,0 +1,103 @@
+//! The commands that a line can hold.
+
+use crate::stops::{Break, Register};
+use crate::verbs::Verb;
+use a2_bus::Keys;
+use a2_symbols::Span;
+
+/// Something to show. Showing it changes nothing.
+#[derive(Clone, Copy)]
+pub enum Show {
+    /// The current position, and the routines that were entered.
+    Place,
+    /// The registers.
+    Registers,
+    /// The value of an 8-bit register.
+    Register(Register),
+    /// The value of PC.
+    Counter,
+    /// An address and the byte there.
+    Address(u16),
+    /// The bytes from one address to another.
+    Memory(Span),
+    /// The picture on the screen.
+    Screen,
+    /// The source lines around the current position.
+    Lines,
+    /// The breakpoints and the watched bytes.
+    Stops,
+    /// The list of commands.
+    Help,
+}
+
+/// A command.
+#[derive(Drop)]
+pub enum InspectorCommand {
+    /// Execute this many steps.
+    Step(u16),
+    /// Execute one step, or a whole routine.
+    Next,
+    /// Execute steps until the routine returns.
+    Out,
+    /// Go back this many steps.
+    Back(u16),
+    /// Go back one step, or a whole routine.
+    GoBackOver,
+    /// Execute steps up to a breakpoint or to just after a step that changed a watched byte.
+    Go,
+    /// Execute steps up to an address.
+    Until(u16),
+    /// Go back to the latest earlier breakpoint, or to just before the latest step that changed a watched byte.
+    GoBack,
+    /// Watch these bytes.
+    Watch(Span),
+    /// Go back to just before the latest step that changed one of these bytes.
+    Who(Span),
+    /// Set a breakpoint.
+    Break(Break),
+    /// Remove all breakpoints and stop watching bytes.
+    Clear,
+    /// Type keys.
+    TypeKeys(Keys),
+    /// Show something.
+    Show(Show),
+}
+
+/// The result of a line.
+#[derive(Clone, Copy)]
+pub enum Outcome {
+    /// There was nothing to repeat.
+    Nothing,
+    /// The run moved by the steps of the command, or up to the place it looked for. It may not have moved at all, at the start.
+    Moved,
+    /// Steps were executed until the machine was stuck or the limit of one line was reached.
+    Stopped(a2_machine::Cause),
+    /// No earlier step begins at a breakpoint, or changed a watched byte.
+    NoneEarlier,
+    /// No earlier step changed one of these bytes.
+    NeverChanged(Span),
+    /// No routine has been entered.
+    NoRoutine,
+    /// The breakpoint is set.
+    Set(Break),
+    /// The breakpoint could not be set: there are already as many as allowed.
+    Full,
+    /// The bytes are watched.
+    Watched(Span),
+    /// The bytes are not watched: there are already as many watched spans as allowed.
+    FullWatches,
+    /// All breakpoints and watched spans were removed.
+    Cleared,
+    /// Keys were typed.
+    Typed,
+    /// The keys were not typed: too many would be waiting.
+    KeysFull,
+    /// Nothing was done, because memory ran out.
+    Memory,
+    /// This is to be shown.
+    Shown(Show),
+    /// The first word of the line is not a command.
+    NoWord,
+    /// The text after this command is not valid.
+    Refused(Verb),
+}

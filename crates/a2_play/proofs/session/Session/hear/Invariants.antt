@@ -1,5 +1,0 @@
-use Rattle.std.proofs.Common.{length}
-use Rattle.a2_play.proofs.session.Session.hear.Given as goal
-
-abbrev pub decreases-loop-stroke : goal.decreases-loop-stroke
-decreases-loop-stroke l = length l.ahead

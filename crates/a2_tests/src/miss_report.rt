@@ -1,0 +1,240 @@
+//! Reports on a line that is not met: what was expected, what was found, and where the run ended.
+
+use crate::call::append;
+use crate::line::{Line, NumberedLine, following};
+use crate::requirements::{
+    Ending, first_different_byte, first_different_register, first_use_of, place_of, register_byte,
+    size_of,
+};
+use crate::rows::{first_row, row_count, row_fits};
+use crate::settings::name_in;
+use a2_opcode::Mnemonic;
+use a2_symbols::statement_at;
+use a2_text::{decimal, hex_pair, hex_word, is_blank};
+use std::alloc::{AllocError, Allocator};
+
+// Returns a row without the blanks at its end.
+fn trimmed(row: &[u8]) -> &[u8] {
+    let mut rest = row;
+    while let [front @ .., c] = rest {
+        if !is_blank(*c) {
+            return rest;
+        }
+        rest = front;
+    }
+    rest
+}
+
+// Returns the first row of the screen that is not the expected one: its number, from 0, the expected row, and the row
+// found.
+fn first_different_row<'a, 'b>(
+    lines: &[NumberedLine<'a>],
+    shown: &[&'b [u8]],
+) -> Option<(usize, &'a [u8], &'b [u8])> {
+    let mut used: usize = 0;
+    for (number, row) in shown.iter().enumerate() {
+        let here = following(lines, used.min(lines.len()));
+        let wanted = first_row(here);
+        if !row_fits(wanted, *row) {
+            return Some((number, wanted, *row));
+        }
+        used = used.saturating_add(row_count(here));
+    }
+    None
+}
+
+// Reports that the screen has only this many rows, although another one is expected.
+fn put_fewer<A: Allocator>(text: &mut Vec<u8, A>, rows: usize) -> Result<(), AllocError> {
+    let rows = decimal(rows as u64);
+    append(text, &[b"the screen has only ", rows.as_slice(), b" rows"])
+}
+
+// Reports the first row of the screen that is not the expected one.
+fn report_rows<A: Allocator>(
+    text: &mut Vec<u8, A>,
+    lines: &[NumberedLine],
+    shown: &[&[u8]],
+) -> Result<(), AllocError> {
+    let Some((number, wanted, row)) = first_different_row(lines, shown) else {
+        return put_fewer(text, shown.len());
+    };
+    report_row(text, number, wanted, row)
+}
+
+// Reports a row of the screen that is not the expected one.
+fn report_row<A: Allocator>(
+    text: &mut Vec<u8, A>,
+    number: usize,
+    wanted: &[u8],
+    row: &[u8],
+) -> Result<(), AllocError> {
+    let number = decimal(number as u64);
+    append(
+        text,
+        &[
+            b"screen row ",
+            number.as_slice(),
+            b": expected \"",
+            trimmed(wanted),
+            b"\", found \"",
+            trimmed(row),
+            b"\"",
+        ],
+    )
+}
+
+// Reports the row with a given number, which is not the expected one.
+fn report_row_at<A: Allocator>(
+    text: &mut Vec<u8, A>,
+    number: u16,
+    wanted: &[u8],
+    shown: &[&[u8]],
+) -> Result<(), AllocError> {
+    match shown.get(usize::from(number)) {
+        Some(row) => report_row(text, usize::from(number), wanted, *row),
+        None => put_fewer(text, shown.len()),
+    }
+}
+
+// Appends two hexadecimal digits, or `no readable byte`.
+fn report_byte<A: Allocator>(text: &mut Vec<u8, A>, byte: Option<u8>) -> Result<(), AllocError> {
+    match byte {
+        Some(byte) => append(text, &[&hex_pair(byte)]),
+        None => append(text, &[b"no readable byte"]),
+    }
+}
+
+// Reports the first byte of memory that is not the expected one.
+fn report_memory<A: Allocator>(
+    text: &mut Vec<u8, A>,
+    place: &str,
+    bytes: &[u8],
+    ending: &Ending<A>,
+) -> Result<(), AllocError> {
+    let Some(address) = place_of(ending.program, place) else {
+        return append(
+            text,
+            &[b"mem: ", place.as_bytes(), b" is not defined in the source"],
+        );
+    };
+    let Some((at, wanted)) = first_different_byte(ending.machine, address, bytes) else {
+        return Ok(());
+    };
+    append(
+        text,
+        &[b"mem $", &hex_word(at), b": expected ", wanted, b", found "],
+    )?;
+    report_byte(text, ending.machine.peek(at))
+}
+
+// Reports the first register that does not have the expected value.
+fn report_registers<A: Allocator>(
+    text: &mut Vec<u8, A>,
+    words: &[u8],
+    ending: &Ending<A>,
+) -> Result<(), AllocError> {
+    let Some(word) = first_different_register(ending.machine, words) else {
+        return Ok(());
+    };
+    append(text, &[b"reg: expected ", word, b", found "])?;
+    report_byte(text, register_byte(ending.machine, name_in(word)))
+}
+
+// Reports that a number is above the maximum.
+fn report_maximum<A: Allocator>(
+    text: &mut Vec<u8, A>,
+    name: &[u8],
+    most: u32,
+    found: u64,
+) -> Result<(), AllocError> {
+    let most = decimal(u64::from(most));
+    let found = decimal(found);
+    append(
+        text,
+        &[
+            name,
+            b": expected at most ",
+            most.as_slice(),
+            b", found ",
+            found.as_slice(),
+        ],
+    )
+}
+
+// Reports where a mnemonic is used, or that it is not used.
+fn report_use<A: Allocator>(
+    text: &mut Vec<u8, A>,
+    mnemonic: Mnemonic,
+    ending: &Ending<A>,
+) -> Result<(), AllocError> {
+    let name = mnemonic.name().as_bytes();
+    match first_use_of(ending.program.statements(), mnemonic) {
+        Some(statement) => {
+            let line = decimal(u64::from(statement.line));
+            append(text, &[b"uses ", name, b" in line ", line.as_slice()])
+        }
+        None => append(text, &[b"does not use ", name]),
+    }
+}
+
+// Reports the difference.
+fn report_difference<A: Allocator>(
+    text: &mut Vec<u8, A>,
+    lines: &[NumberedLine],
+    ending: &Ending<A>,
+) -> Result<(), AllocError> {
+    let [asked, rest @ ..] = lines else {
+        return Ok(());
+    };
+    match asked.line {
+        Line::Screen => report_rows(text, rest, ending.rows),
+        Line::Shows(number, wanted) => report_row_at(text, number, wanted, ending.rows),
+        Line::Holds(part) => append(text, &[b"no row of the screen contains \"", part, b"\""]),
+        Line::Mem(place, bytes) => report_memory(text, place, bytes, ending),
+        Line::Reg(words) => report_registers(text, words, ending),
+        Line::Stop(cause) => append(
+            text,
+            &[
+                b"stop: expected ",
+                cause.name(),
+                b", found ",
+                ending.cause.name(),
+            ],
+        ),
+        Line::Cycles(most) => report_maximum(text, b"cycles", most, ending.machine.cycles()),
+        Line::Bytes(most) => {
+            let size = size_of(ending.program.statements()).min(u128::from(u64::MAX));
+            report_maximum(text, b"bytes", most, size as u64)
+        }
+        Line::Uses(mnemonic) | Line::Avoids(mnemonic) => report_use(text, mnemonic, ending),
+        _ => Ok(()),
+    }
+}
+
+// Reports where a run ended that did not end by itself.
+fn report_end<A: Allocator>(text: &mut Vec<u8, A>, ending: &Ending<A>) -> Result<(), AllocError> {
+    if ending.cause.is_normal_end() {
+        return Ok(());
+    }
+    let pc = ending.machine.regs().pc;
+    append(text, &[b"; stopped by ", ending.cause.name()])?;
+    match statement_at(ending.program.statements(), pc) {
+        Some(statement) => {
+            let line = decimal(u64::from(statement.line));
+            append(text, &[b" in line ", line.as_slice()])
+        }
+        None => append(text, &[b" at $", &hex_word(pc)]),
+    }
+}
+
+/// Returns the report on the first of these lines, which the end of a run does not meet.
+pub(crate) fn miss_report<A: Allocator + Copy>(
+    alloc: A,
+    lines: &[NumberedLine],
+    ending: &Ending<A>,
+) -> Result<Vec<u8, A>, AllocError> {
+    let mut text = Vec::new(alloc);
+    report_difference(&mut text, lines, ending)?;
+    report_end(&mut text, ending)?;
+    Ok(text)
+}

@@ -1,0 +1,245 @@
+//! A finished run.
+
+ghost use Rattle.std.specs.Prelude.{◌≡◌, ◌-◌, ◌<◌, ◌≤◌, All, IfOk, IfErr};
+ghost use Rattle.a2_machine.specs.ByteRun.{bytes};
+ghost use Rattle.a2_machine.specs.declared.causes.Cause.{Cause};
+ghost use Rattle.a2_machine.specs.State.{code_of, world_of_state};
+ghost use Rattle.a2_run.specs.Meaning.{start_of_run};
+ghost use Rattle.a2_run.specs.Started.{guard_of_run};
+ghost use Rattle.a2_timed_keys.specs.Typed.{AreCopies, IsOverfull, IsRunning, IsTypedFault, IsTypedRun, IsTypedStop};
+ghost use Rattle.a2_timed_keys.specs.Finished.{IsFinished};
+
+use crate::earlier::Earlier;
+use crate::run::{TypedFault, run_on};
+use crate::strokes::{Strokes, Typed, type_due};
+use a2_asm::Program;
+use a2_machine::{Cause, Machine};
+use a2_run::{RunArgs, started};
+use std::alloc::{AllocError, Allocator, Global};
+use std::marker::Model;
+
+/// How many steps are between two copies of the machine of a run. A copy takes as long as some thousands of steps.
+const BETWEEN_COPIES: u32 = 1 << 18;
+
+/// How a program is run when keys are typed on the way.
+#[derive(Clone, Copy)]
+pub struct TimedArgs<'a, A: Allocator = Global> {
+    pub run: RunArgs<'a>,
+    /// The keys that are typed on the way.
+    pub strokes: &'a Strokes<A>,
+}
+
+/// A finished run of a program: the machine as the run left it, and the cause of its end. To go back to the last steps takes no
+/// second run from the start, because the run kept copies of its machine on the way.
+pub struct Ended<'a, A: Allocator = Global> {
+    program: &'a Program<A>,
+    args: TimedArgs<'a, A>,
+    machine: Machine<A>,
+    cause: Cause,
+    earlier: Earlier<A>,
+}
+
+impl<'a, A: Allocator> Model for Ended<'a, A> {
+    ghost use Rattle.std.specs.Prelude.{◌<◌};
+    ghost use Rattle.a2_timed_keys.specs.Finished.{Finished, IsFinished, AreItsCopies};
+
+    ghost Value = { Finished };
+
+    ghost view = { λ e. record {
+      program = e.program.now;
+      keys = e.args.run.keys.now;
+      log = e.args.strokes.now;
+      limit = e.args.run.limit;
+      free = e.args.run.free;
+      machine = e.machine;
+      cause = e.cause;
+    } };
+
+    ghost invariant = { λ e. let f : Finished = record {
+      program = e.program.now;
+      keys = e.args.run.keys.now;
+      log = e.args.strokes.now;
+      limit = e.args.run.limit;
+      free = e.args.run.free;
+      machine = e.machine;
+      cause = e.cause;
+    } in
+        IsFinished f × AreItsCopies f e.earlier.older e.earlier.newer × (f.limit < 4_294_967_296) };
+}
+
+// Not derived, for the prover alone: it follows this as one call, and a derived one field by field.
+impl<'a, A: Allocator> Drop for Ended<'a, A> {
+    fn drop(self) {
+        let Ended {
+            program: _,
+            args: _,
+            machine: _,
+            cause: _,
+            earlier: _,
+        } = self;
+    }
+}
+
+// Returns the steps after which the next copy is kept, at most `limit`.
+fn next_copy(made: u32, limit: u32) -> u32
+    requires { made < limit }
+    ensures more { made < result }
+    ensures within { result ≤ limit }
+{
+    made.saturating_add(BETWEEN_COPIES).min(limit)
+}
+
+// Runs a machine from its start, types keys after their steps, and keeps copies of the machine. Returns the cause of the run's end with
+// the copies, or the steps after which the keys do not fit.
+fn run_keeping<A: Allocator + Copy>(
+    alloc: A,
+    machine: &mut Machine<A>,
+    typed: &[Typed],
+    limit: u32,
+) -> Result<(Cause, Earlier<A>), u64>
+    requires codes { All (λ t. t.key < 128) typed.now }
+    requires start { machine.old.state.steps ≡ 0 }
+    ensures stopped { IfOk result (λ (cause, _). IsTypedStop (code_of machine.old.state)
+        (world_of_state machine.old.state) typed.now limit machine.new.state cause) }
+    ensures copies { IfOk result (λ (_, earlier). AreCopies (code_of machine.old.state)
+        (world_of_state machine.old.state) typed.now earlier.older earlier.newer) }
+    ensures full { IfErr result (λ steps. IsOverfull (code_of machine.old.state)
+        (world_of_state machine.old.state) typed.now limit steps) }
+    // For the prover alone: a caller has the number in a field, whose range is not known there.
+    ensures range { limit < 4_294_967_296 }
+{
+    let mut earlier = Earlier::new();
+    let mut made = 0;
+    if !type_due(machine, typed, 0) {
+        return Err(0);
+    }
+    while made < limit {
+        let until = next_copy(made, limit);
+        let cause = run_on(machine, typed, made, until)?;
+        if machine.steps() < u64::from(until) {
+            return Ok((cause, earlier));
+        }
+        if until < limit {
+            earlier.keep(alloc, machine);
+        }
+        made = until;
+    }
+    Ok((machine.run(0), earlier))
+}
+
+impl<'a, A: Allocator + Copy> Ended<'a, A> {
+    /// Runs `program`, and types each of the keys of `args.strokes` when as many steps were made as it says. Keys after more steps
+    /// than the run makes are not typed. Fails if after some steps more than 4,096 keys would wait, or if there is not enough memory.
+    /// This project's profile.
+    pub fn of(
+        alloc: A,
+        program: &'a Program<A>,
+        args: TimedArgs<'a, A>,
+    ) -> Result<Ended<'a, A>, TypedFault>
+        ensures run { IfOk result (λ ended. (ended.program ≡ program.now) × (ended.keys ≡ args.entry.run.keys.now)
+            × (ended.log ≡ args.entry.strokes.now) × (ended.limit ≡ args.entry.run.limit) × (ended.free ≡ args.entry.run.free)) }
+        ensures ended { IfOk result (λ ended. IsFinished ended) }
+        ensures refused { IfErr result (λ fault. IsTypedFault program.now args.entry.run.keys.now args.entry.strokes.now
+            args.entry.run.limit args.entry.run.free fault) }
+    {
+        // For the prover alone: a law of every program, by which the guarded bytes run as its statements.
+        program.is_sound();
+        let mut machine = started(alloc, program, args.run.keys, args.run.free)?;
+        match run_keeping(alloc, &mut machine, args.strokes.as_slice(), args.run.limit) {
+            Ok((cause, earlier)) => Ok(Ended {
+                program,
+                args,
+                machine,
+                cause,
+                earlier,
+            }),
+            Err(steps) => Err(TypedFault::Full(steps)),
+        }
+    }
+
+    // Returns a machine in the middle of the run, after at most so many steps.
+    fn resumed(&self, alloc: A, until: u64) -> Result<Machine<A>, AllocError>
+        ensures { IfOk result (λ machine. IsRunning (bytes (guard_of_run self.now.free self.now.program))
+            (start_of_run self.now.program self.now.keys) self.now.log until machine.state.steps machine) }
+    {
+        let run = self.args.run;
+        let mut machine = started(alloc, self.program, run.keys, run.free)?;
+        if let Some(copy) = self.earlier.newest(until) {
+            machine.copy_from(copy);
+            return Ok(machine);
+        }
+        if type_due(&mut machine, self.args.strokes.as_slice(), 0) {
+            Ok(machine)
+        } else {
+            // The run began with these keys, so they do fit.
+            Err(AllocError)
+        }
+    }
+
+    /// Returns the machine as it was so many steps before the end of the run, or at the start of a shorter run. At most about
+    /// 500,000 steps are repeated for this. Fails only if there is not enough memory.
+    pub fn before_end(&self, alloc: A, steps: u32) -> Result<Machine<A>, AllocError>
+        ensures { IfOk result (λ machine. (cause : Cause) × IsTypedRun self.now.program self.now.keys self.now.log
+            (self.now.machine.state.steps - steps) self.now.free machine.state cause) }
+    {
+        // For the prover alone: a law of every program, by which the guarded bytes run as its statements.
+        self.program.is_sound();
+        let until = self.machine.steps().saturating_sub(u64::from(steps));
+        let mut machine = self.resumed(alloc, until)?;
+        let made = machine.steps() as u32;
+        match run_on(
+            &mut machine,
+            self.args.strokes.as_slice(),
+            made,
+            until as u32,
+        ) {
+            Ok(_) => Ok(machine),
+            // The run has an end, so the keys do fit.
+            Err(_) => Err(AllocError),
+        }
+    }
+}
+
+impl<'a, A: Allocator> Ended<'a, A> {
+    /// Returns the program that ran.
+    pub fn program(&self) -> &'a Program<A>
+        ensures { result.now ≡ self.now.program }
+    {
+        self.program
+    }
+
+    /// Returns the keys that were to be typed on the way.
+    pub fn strokes(&self) -> &'a Strokes<A>
+        ensures { result.now ≡ self.now.log }
+    {
+        self.args.strokes
+    }
+
+    /// Returns the machine as the run left it.
+    pub fn machine(&self) -> &Machine<A>
+        ensures { result.now ≡ self.now.machine }
+    {
+        &self.machine
+    }
+
+    /// Returns the cause of the run's end.
+    pub fn cause(&self) -> Cause
+        ensures { result ≡ self.now.cause }
+    {
+        self.cause
+    }
+
+    /// Returns the machine as the run left it, and drops what else is kept of the run.
+    pub fn into_machine(self) -> Machine<A>
+        ensures { result ≡ self.entry.machine }
+    {
+        let Ended {
+            program: _,
+            args: _,
+            machine,
+            cause: _,
+            earlier: _,
+        } = self;
+        machine
+    }
+}
