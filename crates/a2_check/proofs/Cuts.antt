@@ -8,10 +8,10 @@ use Rattle.std.proofs.Math.Seq.{get_or-append_seam, take-append_seam}
 use Rattle.std.proofs.lemmas.List.Elements.{All-nil, All-cons, All-head, All-tail, All-same, All-append, All-take, All-weaker}
 use Rattle.std.proofs.lemmas.List.Splits.{slice_split_at, slice_split-cons_yes, slice_split-cons_no}
 use Rattle.a2_text.specs.Lines.{lines, lines_of_pieces}
-use Rattle.a2_syntax.specs.Limits.{size_refusal}
+use Rattle.a2_syntax.specs.Limits.{size_error}
 use Rattle.a2_syntax.specs.Bare.{BareLine}
 use Rattle.a2_syntax.specs.Grammar.{IsLine}
-use Rattle.a2_syntax.specs.Sources.{AreLines, IsSource, IsTextRefusal}
+use Rattle.a2_syntax.specs.Sources.{AreLines, IsSource, IsSourceError}
 use Rattle.a2_syntax.specs.declared.fault.Fault.{Fault}
 use Rattle.a2_syntax.proofs.OneReading.{refused-none}
 
@@ -84,7 +84,7 @@ one-line line text e whole =
     ∙ ap lines_of_pieces (slice_split_at is_feed (line ++ 13 ∷ []) 10 [] ready refl)
     ∙ ap (λ (x : List ℕ). x ∷ []) (unended line)
 
-pub one-fits : (line text : List ℕ) → text ≡ line ++ 13 ∷ 10 ∷ [] → IsWhole line → length line ≤ 255 → size_refusal text ≡ None
+pub one-fits : (line text : List ℕ) → text ≡ line ++ 13 ∷ 10 ∷ [] → IsWhole line → length line ≤ 255 → size_error text ≡ None
 one-fits line text e whole short =
     let few : ltb 65536 (length text) ≡ false = le-ltb 65536 (length text) (omega (arith, ap length e, length-append line (13 ∷ 10 ∷ []), short)) in
     let low : ltb 255 (length line) ≡ false = le-ltb 255 (length line) short in
@@ -101,7 +101,7 @@ read-line line text source e whole is =
     first-read line source (subst P (one-line line text e whole) is.1)
 
 -- and it is not in the grammar if that text has an error
-pub unread-line : (line text : List ℕ) (fault : Fault) → text ≡ line ++ 13 ∷ 10 ∷ [] → IsWhole line → length line ≤ 255 → IsTextRefusal text fault → (read : BareLine) → IsLine line read → ⊥
+pub unread-line : (line text : List ℕ) (fault : Fault) → text ≡ line ++ 13 ∷ 10 ∷ [] → IsWhole line → length line ≤ 255 → IsSourceError text fault → (read : BareLine) → IsLine line read → ⊥
 unread-line line text fault e whole short refused read is =
     let P : List (List ℕ) → Type 0 = λ texts. AreLines texts (read ∷ []) in
     refused-none text fault (read ∷ []) refused (one-fits line text e whole short, subst P (sym (one-line line text e whole)) (is, tt))

@@ -7,10 +7,10 @@ use Rattle.std.proofs.lemmas.List.Elements.{All-head, All-from_get_or, All-conta
 use Rattle.a2_text.specs.Lines.{lines}
 use Rattle.a2_syntax.specs.Bare.{BareLine}
 use Rattle.a2_syntax.specs.Grammar.{IsLine}
-use Rattle.a2_syntax.specs.Sources.{AreLines, FirstUnread, IsSource, IsTextRefusal}
+use Rattle.a2_syntax.specs.Sources.{AreLines, IsFirstBadLine, IsSource, IsSourceError}
 use Rattle.a2_syntax.specs.declared.fault.Fault.{Fault}
 use Rattle.a2_syntax.specs.declared.fault.Fault.TheVariants.{Syntax}
-use Rattle.a2_asm.specs.Refusals.{IsLayoutRefusal}
+use Rattle.a2_asm.specs.Refusals.{IsLayoutError}
 use Rattle.a2_check.specs.Unread.{IsUnread, AreUnread}
 use Rattle.a2_check.specs.Refusals.{AreRefusals}
 
@@ -42,7 +42,7 @@ earlier-read texts n ns all k low within = elim (all.others (k + 1) (omega arith
       subst P at is
 ]
 
-first-unread : (texts : List (List ℕ)) (n : ℕ) (ns : List ℕ) → AreUnread texts (n ∷ ns) → FirstUnread texts n
+first-unread : (texts : List (List ℕ)) (n : ℕ) (ns : List ℕ) → AreUnread texts (n ∷ ns) → IsFirstBadLine texts n
 first-unread texts n ns all =
     let u : IsUnread texts n = All-head (IsUnread texts) n ns all.unread in
     let i = n - 1 in
@@ -56,11 +56,11 @@ first-unread texts n ns all =
       λ line is. u.1 (line, is),
     )
 
-of-lines : (texts : List (List ℕ)) (fault : Fault) (more : List Fault) (numbers : List ℕ) → fault ∷ more ≡ map Syntax numbers → AreUnread texts numbers → (n : ℕ) × (fault ≡ Syntax n) × FirstUnread texts n
+of-lines : (texts : List (List ℕ)) (fault : Fault) (more : List Fault) (numbers : List ℕ) → fault ∷ more ≡ map Syntax numbers → AreUnread texts numbers → (n : ℕ) × (fault ≡ Syntax n) × IsFirstBadLine texts n
 of-lines texts fault more [] e all = let never : fault ∷ more ≡ [] = e in cc
 of-lines texts fault more (n ∷ ns) e all = let whole : fault ∷ more ≡ Syntax n ∷ map Syntax ns = e in (n, cc, first-unread texts n ns all)
 
-pub first-refusal : (text : List ℕ) (fault : Fault) (more : List Fault) → AreRefusals text (fault ∷ more) → IsTextRefusal text fault ⊎ ((source : List BareLine) × IsSource text source × IsLayoutRefusal source fault)
+pub first-refusal : (text : List ℕ) (fault : Fault) (more : List Fault) → AreRefusals text (fault ∷ more) → IsSourceError text fault ⊎ ((source : List BareLine) × IsSource text source × IsLayoutError source fault)
 first-refusal text fault more (inl (inl (other, e, large))) = let same : fault ≡ other = cc in inl (inl (large ∙ ap Some (sym same)))
 first-refusal text fault more (inl (inr (fits, (numbers, e, some, all)))) =
     let f = of-lines (lines text) fault more numbers e all in
@@ -68,4 +68,4 @@ first-refusal text fault more (inl (inr (fits, (numbers, e, some, all)))) =
 first-refusal text fault more (inr (source, is, inl (e, program, is_program))) = let never : fault ∷ more ≡ [] = e in cc
 first-refusal text fault more (inr (source, is, inr (other, layout, refused, is_layout, e))) =
     let same : fault ≡ other = cc in
-    inr (source, is, subst (IsLayoutRefusal source) (sym same) refused)
+    inr (source, is, subst (IsLayoutError source) (sym same) refused)

@@ -1,5 +1,5 @@
 pub mod Cuts
 pub mod First
 pub mod Numbering
-pub mod Telling
+pub mod Reporting
 mod Marking

@@ -1,4 +1,4 @@
--- A list of marks of which none is set.
+-- A list of marks with none set.
 use Rattle.std.specs.Prelude.{get_or, replicate}
 use Rattle.std.proofs.Common.{◌≡◌, ◌⊎◌, inl, inr, ℕ, ◌<◌, ◌≤◌, false, arith}
 use Rattle.std.proofs.lemmas.List.{get_or-replicate, get_or_past, length-replicate}

@@ -1,13 +1,13 @@
--- The errors of a text. There are none if it is accepted. Otherwise they are the error of its size alone; otherwise an error
--- for each line that is not in the grammar; otherwise the errors of its layout. This project's profile.
+-- The errors of a text. There are none if it is accepted. If it is too large, that is the only error. Otherwise there is an error
+-- for each line that is not in the grammar; if there is no such line, there are the errors of its layout. This project's profile.
 use Rattle.std.specs.Prelude.{◌≡◌, ◌⊎◌, ℕ, ◌<◌, List, [], ◌∷◌, length, map, Some, None}
 use Rattle.a2_text.specs.Lines.{lines}
 use Rattle.a2_syntax.specs.Bare.{BareLine}
-use Rattle.a2_syntax.specs.Limits.{size_refusal}
+use Rattle.a2_syntax.specs.Limits.{size_error}
 use Rattle.a2_syntax.specs.Sources.{IsSource}
 use Rattle.a2_syntax.specs.declared.fault.Fault.{Fault}
 use Rattle.a2_syntax.specs.declared.fault.Fault.TheVariants.{Syntax}
-use Rattle.a2_asm.specs.Every.{AreLayoutRefusals}
+use Rattle.a2_asm.specs.Every.{AreLayoutErrors}
 use Rattle.a2_asm.specs.Programs.{IsProgram}
 use Rattle.a2_check.specs.Unread.{AreUnread}
 use Rattle.a2_check.specs.declared.verdict.Verdict.{Verdict}
@@ -20,12 +20,12 @@ AreOfGrammar texts faults = (numbers : List ℕ) × (faults ≡ map Syntax numbe
 -- the text is too large, or has lines that are not in the grammar
 abbrev pub AreOfText : List ℕ → List Fault → Type 0
 AreOfText text faults =
-    ((fault : Fault) × (faults ≡ fault ∷ []) × (size_refusal text ≡ Some fault)) ⊎
-    ((size_refusal text ≡ None) × AreOfGrammar (lines text) faults)
+    ((fault : Fault) × (faults ≡ fault ∷ []) × (size_error text ≡ Some fault)) ⊎
+    ((size_error text ≡ None) × AreOfGrammar (lines text) faults)
 
 -- all errors that are reported for a text
 abbrev pub AreRefusals : List ℕ → List Fault → Type 0
-AreRefusals text faults = AreOfText text faults ⊎ ((source : List BareLine) × IsSource text source × AreLayoutRefusals source faults)
+AreRefusals text faults = AreOfText text faults ⊎ ((source : List BareLine) × IsSource text source × AreLayoutErrors source faults)
 
 -- the result of checking a text: lines that make a program, or at least one error
 abbrev pub IsVerdict : {A : Type 0} → List ℕ → Verdict A → Type 0

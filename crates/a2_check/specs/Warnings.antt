@@ -4,7 +4,7 @@ use Rattle.std.specs.List.{list_any, prefix_len}
 use Rattle.std.specs.Option.{option_map_or}
 use Rattle.a2_text.specs.Bytes.{is_digit}
 use Rattle.a2_text.specs.Signs.{sign}
-use Rattle.a2_text.specs.Words.{behind_blanks}
+use Rattle.a2_text.specs.Words.{after_blanks}
 use Rattle.a2_opcode.specs.declared.Instr.{Instr}
 use Rattle.a2_opcode.specs.declared.Mode.{Mode}
 use Rattle.a2_opcode.specs.declared.Mode.TheVariants.{Relative, Absolute, Immediate}
@@ -21,11 +21,11 @@ begins_number c = c == sign "$" || is_digit c
 
 -- `=` and a number
 abbrev pub equals_number : List ℕ → Bool
-equals_number text = get_or text 0 0 == sign "=" && begins_number (get_or (behind_blanks (drop 1 text)) 0 0)
+equals_number text = get_or text 0 0 == sign "=" && begins_number (get_or (after_blanks (drop 1 text)) 0 0)
 
 -- `*` in column 1, then `=` and a number: the line is a comment
 abbrev pub sets_no_place : List ℕ → Bool
-sets_no_place line = get_or line 0 0 == sign "*" && equals_number (behind_blanks (drop 1 line))
+sets_no_place line = get_or line 0 0 == sign "*" && equals_number (after_blanks (drop 1 line))
 
 abbrev pub is_relative : Mode → Bool
 is_relative Relative = true
@@ -87,8 +87,8 @@ is_immediate Immediate = true
 is_immediate mode = false
 
 -- the text after the first `#` and blanks
-abbrev pub behind_number_sign : List ℕ → List ℕ
-behind_number_sign text = behind_blanks (drop 1 (drop (prefix_len (λ c. not (c == sign "#")) text) text))
+abbrev pub after_number_sign : List ℕ → List ℕ
+after_number_sign text = after_blanks (drop 1 (drop (prefix_len (λ c. not (c == sign "#")) text) text))
 
 -- a single quote and the character with this code
 abbrev pub is_quoted : ℕ → List ℕ → Bool
@@ -97,7 +97,7 @@ is_quoted code text = false
 
 -- LDA of a character in single quotes, which has bit 7 clear
 abbrev pub loads_plain : List ℕ → Instr → Bool
-loads_plain text i = is_lda i.mnemonic && is_immediate i.mode && is_quoted i.value (behind_number_sign text)
+loads_plain text i = is_lda i.mnemonic && is_immediate i.mode && is_quoted i.value (after_number_sign text)
 
 abbrev pub is_load_of_index : Mnemonic → Bool
 is_load_of_index Ldx = true
@@ -119,9 +119,9 @@ puts s = option_map_or (λ i. puts_by i.mnemonic i.value) s.instr false
 
 -- the first statement that is not LDX or LDY writes A to the screen
 abbrev pub is_put : List Statement → Bool
-is_put behind = option_map_or puts (find (λ s. not (loads_index s)) behind) false
+is_put following = option_map_or puts (find (λ s. not (loads_index s)) following) false
 
 -- a statement, in a line with this text, loads A with a character with bit 7 clear, and the statements after it write A to the
 -- screen
 abbrev pub shows_plain : List ℕ → Statement → List Statement → Bool
-shows_plain text s behind = option_map_or (loads_plain text) s.instr false && is_put behind
+shows_plain text s following = option_map_or (loads_plain text) s.instr false && is_put following

@@ -3,8 +3,8 @@
 use crate::finding::finding;
 use crate::layout::Place;
 use crate::line::parts_of;
+use crate::message::Message;
 use crate::mistake::Sentence;
-use crate::told::Telling;
 use a2_asm::Program;
 use a2_syntax::{Fault, Line};
 use std::alloc::{AllocError, Allocator};
@@ -23,16 +23,22 @@ pub(crate) struct Checked<'a, A: Allocator> {
 }
 
 // Returns the message for a text that is too large.
-fn too_large<'a>(line: u16) -> Telling<'a> {
-    let (what, mend): (Sentence, Sentence) = match line {
-        0 => (b"the text has more than 65536 bytes", b"split it"),
-        4097 => (b"the text has more than 4096 lines", b"split it"),
+fn too_large<'a>(line: u16) -> Message<'a> {
+    let (what, fix): (Sentence, Sentence) = match line {
+        0 => (
+            b"the source has more than 65536 bytes",
+            b"shorten it, or make two programs of it",
+        ),
+        4097 => (
+            b"the source has more than 4096 lines",
+            b"shorten it, or make two programs of it",
+        ),
         _ => (
             b"the line has more than 255 bytes",
-            b"cut it; a comment goes on in the next line behind a ; of its own",
+            b"shorten it; continue a comment in the next line, after another ;",
         ),
     };
-    Telling::new(0, 1, what, mend)
+    Message::new(0, 1, what, fix)
 }
 
 /// Returns the line with this number, counted from 1, or an empty line if there is none.
@@ -44,26 +50,26 @@ pub(crate) fn line_at<'a>(texts: &[&'a [u8]], number: u16) -> &'a [u8] {
 }
 
 // Returns the message for a line that is not in the grammar.
-fn not_a_line<'a>(text: &'a [u8], source: &[u8], number: u16) -> Telling<'a> {
+fn not_a_line<'a>(text: &'a [u8], source: &[u8], number: u16) -> Message<'a> {
     let whole = if number == 1 { source } else { b"" };
-    Telling::of_finding(finding(text, whole), parts_of(text))
+    Message::of_finding(finding(text, whole), parts_of(text))
 }
 
 impl<'a, A: Allocator + Copy> Checked<'a, A> {
     /// Returns the message for an error.
-    pub(crate) fn telling(&'a self, alloc: A, fault: Fault) -> Result<Telling<'a>, AllocError> {
+    pub(crate) fn message(&'a self, alloc: A, fault: Fault) -> Result<Message<'a>, AllocError> {
         match fault {
             Fault::TooLarge(line) => Ok(too_large(line)),
             Fault::Syntax(line) => Ok(not_a_line(line_at(self.texts, line), self.source, line)),
-            Fault::NoCode | Fault::Memory => Ok(Telling::new(
+            Fault::NoCode | Fault::Memory => Ok(Message::new(
                 0,
                 1,
-                b"the text has no instruction",
-                b"write one; a line that begins with an operation begins with a blank",
+                b"the source has no instruction",
+                b"write one with a blank before it, such as  RTS",
             )),
             _ => match Place::of(self, fault.line()) {
-                Some(place) => place.telling(alloc, fault),
-                None => Ok(Telling::new(0, 1, b"the line is refused", b"look at the line")),
+                Some(place) => place.message(alloc, fault),
+                None => Ok(Message::new(0, 1, b"the line has an error", b"check the line")),
             },
         }
     }

@@ -2,68 +2,121 @@
 
 use crate::line::is_among;
 
-/// What to write in front of the operand instead of another assembler's word; or, if that is not an operation, what to do.
+/// The fix for another assembler's word: what to write in front of the operand, or what else to do.
 #[derive(Clone, Copy)]
 pub(crate) struct Elsewhere {
     pub here: &'static [u8],
 }
 
 // Words of other assemblers, in capitals with blanks between them. All words of one entry mean the same; the second text is
-// what to write in this assembler.
-static ELSEWHERE: [(&[u8], &[u8]); 24] = [
-    (b".ORG .OR *= * !ORG", b" ORG "),
-    (b"= := .EQ .EQU EPZ .SET", b" EQU "),
+// the fix. If it ends with a blank, the operand follows.
+static DIRECTIVES: [(&[u8], &[u8]); 15] = [
+    (b".ORG .OR *= * !ORG", b"write  ORG "),
+    (b"= := .EQ .EQU EPZ .SET", b"write  EQU "),
     (
         b".BYTE .BYT .DB DB FCB DC.B DC DCB BYTE BYT !BYTE !BY !8 .DFB",
-        b" DFB ",
+        b"write  DFB ",
     ),
     (
         b".WORD .ADDR .DA DA ADR FDB DC.W WORD !WORD !WO !16 .DW",
-        b" DW ",
+        b"write  DW ",
     ),
     (
         b".RES .DS .DSB .FILL !FILL .BS DFS RMB DSB DS.B .BLKB",
-        b" DS ",
+        b"write  DS ",
     ),
-    (b".ASC .AS .TEXT !TEXT .ASCII .STRING STR !TX", b" ASC "),
+    (
+        b".ASC .AS .TEXT !TEXT .ASCII .STRING STR !TX",
+        b"write  ASC ",
+    ),
     (
         b"HEX .HEX !HEX .HS",
-        b" DFB with $ before each byte and commas between them",
+        b"use DFB with $ before each byte and commas between them, as in  DFB $A9,$C1",
     ),
     (
         b"DCI .AT",
-        b" ASC twice: the last character has the other kind of quotes",
+        b"use ASC twice, the second time for the last character, in the other quotes",
     ),
-    (b"INV", b" DFB 'H'-$40,'I'-$40 for inverse letters"),
-    (b"FLS", b" ASC with ' for flashing letters"),
-    (b"BGE", b" BCS "),
-    (b"BLT", b" BCC "),
-    (b"BTR", b" BNE "),
-    (b"BFL", b" BEQ "),
-    (b"XOR", b" EOR "),
-    (b"BRA", b" JMP "),
-    (b"PHX PHY", b" TXA or TYA, and PHA in the next line"),
-    (b"PLX PLY", b" PLA, and TAX or TAY in the next line"),
-    (b"STZ", b" LDA #0, and STA in the next line"),
+    (
+        b"INV",
+        b"use DFB for inverse letters, as in  DFB 'H'-$40,'I'-$40",
+    ),
+    (
+        b"FLS",
+        b"use ASC with ' quotes for flashing letters, as in  ASC 'HI'",
+    ),
     (
         b"END .END .EN OBJ LST PROCESSOR DSK .TF .TA !TO !CPU .SETCPU .P02 MSB .LIST XC TTL SBTL PAGE NLS SAV",
-        b"nothing: leave the line out",
+        b"remove the line",
     ),
     (
         b".INCLUDE INCLUDE !SOURCE !SRC PUT ICL .IN CHN .INCBIN INCBIN !BINARY .IMPORT .EXPORT USE",
-        b"all in one file: paste that text here",
+        b"paste the lines of that file here; a program is one file",
     ),
     (
         b".MACRO MAC !MACRO .MA .MAC MACRO .ENDMACRO .EM <<< >>> .REPT REPEAT",
-        b"a subroutine, or the lines again: there are no macros",
+        b"use a subroutine, or repeat the lines; there are no macros",
     ),
     (
         b".IF IF !IF DO .DO .IFDEF IFDEF ELSE .ELSE FIN .FIN ENDIF .ENDIF .FI .EL",
-        b"the lines that are wanted: nothing is assembled on a condition",
+        b"keep only the lines you need; there is no conditional assembly",
     ),
     (
         b".SEGMENT .CODE .DATA .BSS .ZEROPAGE .PROC .ENDPROC .SCOPE .ENDSCOPE SEG SUBROUTINE !ZONE .( .)",
-        b"nothing: bytes lie where ORG says, and names hold in the whole text",
+        b"remove the line; ORG sets addresses, and names are valid in the whole source",
+    ),
+];
+
+// The same for instructions, of other processors too.
+static INSTRUCTIONS: [(&[u8], &[u8]); 31] = [
+    (b"BGE JC JAE BHS", b"write  BCS "),
+    (b"BLT JNC JB BLO", b"write  BCC "),
+    (b"BTR BNZ JNE JNZ", b"write  BNE "),
+    (b"BFL BZ JE JZ", b"write  BEQ "),
+    (b"XOR", b"write  EOR "),
+    (b"OR", b"write  ORA "),
+    (b"BRA JP JUMP GOTO BR", b"write  JMP "),
+    (b"CALL GOSUB BSR", b"write  JSR "),
+    (b"RET RETURN", b"write  RTS"),
+    (b"HLT HALT STOP", b"write  RTS to end the program, or  BRK"),
+    (b"ADD", b"write  CLC, then in the next line  ADC "),
+    (b"SUB", b"write  SEC, then in the next line  SBC "),
+    (b"CP CMPA", b"write  CMP "),
+    (b"SHL SLA", b"write  ASL "),
+    (b"SHR SRL", b"write  LSR "),
+    (b"LOAD", b"write  LDA "),
+    (b"STORE", b"write  STA "),
+    (b"INA", b"write  CLC, then  ADC #1 in the next line"),
+    (b"DEA", b"write  SEC, then  SBC #1 in the next line"),
+    (b"PUSH", b"write  PHA, which pushes A"),
+    (b"POP PULL", b"write  PLA, which pulls A"),
+    (
+        b"MOV MOVE LD ST",
+        b"use LDA, LDX or LDY to load a byte, and STA, STX or STY to store it",
+    ),
+    (b"NOT", b"write  EOR #$FF"),
+    (
+        b"NEG",
+        b"write  EOR #$FF, then  CLC and  ADC #1 in the next lines",
+    ),
+    (b"DJNZ DBNZ", b"write  DEX, then in the next line  BNE "),
+    (b"CLR", b"write  LDA #0, then in the next line  STA "),
+    (b"SWI INT", b"write  BRK"),
+    (
+        b"MUL DIV",
+        b"use a loop of additions or subtractions; the 6502 has no such instruction",
+    ),
+    (
+        b"PHX PHY",
+        b"write  TXA or  TYA, then  PHA in the next line",
+    ),
+    (
+        b"PLX PLY",
+        b"write  PLA, then  TAX or  TAY in the next line",
+    ),
+    (
+        b"STZ",
+        b"write  LDA #0, then  STA with this operand in the next line",
     ),
 ];
 
@@ -75,16 +128,24 @@ impl Elsewhere {
 
     /// Whether the operand is a number of bytes. In another assembler a fill value may follow it.
     pub(crate) fn is_room(self) -> bool {
-        self.here.starts_with(b" DS ")
+        self.here.starts_with(b"write  DS ")
     }
 }
 
-/// Returns what to write instead of another assembler's word, or `None` if the word is not known.
-pub(crate) fn known_elsewhere(word: &[u8]) -> Option<Elsewhere> {
-    for (words, here) in &ELSEWHERE {
+// Returns the fix for a word of other assemblers in a table, or `None` if the table does not have the word.
+fn known_in(word: &[u8], table: &'static [(&'static [u8], &'static [u8])]) -> Option<Elsewhere> {
+    for (words, here) in table {
         if is_among(word, words) {
             return Some(Elsewhere { here: *here });
         }
     }
     None
+}
+
+/// Returns what to write instead of another assembler's word, or `None` if the word is not known.
+pub(crate) fn known_elsewhere(word: &[u8]) -> Option<Elsewhere> {
+    match known_in(word, &DIRECTIVES) {
+        Some(other) => Some(other),
+        None => known_in(word, &INSTRUCTIONS),
+    }
 }

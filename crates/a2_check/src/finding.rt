@@ -1,14 +1,18 @@
 //! Finds the mistake in a line that is not in the grammar.
 
 use crate::elsewhere::known_elsewhere;
+use crate::forms::has_mode;
 use crate::line::{Parts, before, hex_and_rest, is_among, parts_of};
 use crate::mistake::{Finding, Mistake};
 use crate::operand::{is_accumulator, mistake_in, mistake_in_text, name_len};
-use a2_opcode::{Mnemonic, row_of};
+use a2_opcode::{Mnemonic, Mode, row_of};
 use a2_syntax::is_name;
-use a2_text::front_len;
+use a2_text::{after_blanks, front_len, split_word};
 
 const DIRECTIVES: &[u8] = b"ORG EQU DFB DW ASC DS";
+
+// Words before the name that they define, in other languages.
+const DEFINITIONS: &[u8] = b"EQU DEFINE #DEFINE .DEFINE CONST LET SET";
 
 /// Whether a word is an operation: a mnemonic or a directive.
 pub(crate) fn is_operation(word: &[u8]) -> bool {
@@ -83,11 +87,14 @@ fn in_number<'a>(at: usize, word: &'a [u8]) -> Option<Finding<'a>> {
 
 // Whether a word begins a comment in another assembler.
 fn is_comment(word: &[u8]) -> bool {
-    matches!(word, [b'/', b'/' | b'*', ..] | [b'#', ..])
+    matches!(
+        word,
+        [b'/', b'/' | b'*', ..] | [b'-', b'-', ..] | [b'#', ..]
+    )
 }
 
 // Returns what directly follows a mnemonic at the front of a word, or nothing if the word does not begin with one.
-fn behind_mnemonic(word: &[u8]) -> &[u8] {
+fn after_mnemonic(word: &[u8]) -> &[u8] {
     let (name, rest) = word.split_at(word.len().min(3));
     if Mnemonic::named(name).is_some() {
         rest
@@ -99,14 +106,14 @@ fn behind_mnemonic(word: &[u8]) -> &[u8] {
 // Whether a word is a mnemonic with its operand attached, without a blank.
 fn is_glued(word: &[u8]) -> bool {
     matches!(
-        behind_mnemonic(word),
+        after_mnemonic(word),
         [b'#' | b'$' | b'(' | b'%' | b'"' | b'\'', ..]
     )
 }
 
 // Whether a word is a mnemonic with a suffix that forces an addressing mode, such as `.W`.
 fn is_forced(word: &[u8]) -> bool {
-    matches!(behind_mnemonic(word), [b'.', _])
+    matches!(after_mnemonic(word), [b'.', _])
 }
 
 // Finds the mistake in the word in column 1.
@@ -197,9 +204,45 @@ fn of_operation(word: &[u8]) -> Mistake {
     }
 }
 
+// Whether a line begins with blanks and a label, with or without a colon, and then has an operation.
+fn has_late_label(parts: &Parts) -> bool {
+    let label = parts
+        .operation
+        .strip_suffix(b":")
+        .unwrap_or(parts.operation);
+    let (following, _) = split_word(parts.operand);
+    parts.label.is_empty() && is_name(label) && is_operation(following)
+}
+
+// Whether a text begins with a number or a character in quotes.
+fn begins_value(text: &[u8]) -> bool {
+    matches!(text, [b'0'..=b'9' | b'$' | b'%' | b'"' | b'\'', ..])
+}
+
+// Whether a name and its value follow a word.
+fn is_definition(name: &[u8], value: &[u8]) -> bool {
+    is_name(name) && !is_operation(name) && begins_value(value)
+}
+
+// Finds a word that defines the name after it.
+fn in_definition<'a>(parts: &Parts<'a>) -> Option<Finding<'a>> {
+    if is_among(parts.label, DEFINITIONS) && is_definition(parts.operation, parts.operand) {
+        return found(Mistake::NameSecond, 0, parts.label);
+    }
+    let (name, value) = split_word(parts.operand);
+    let is_in_operation = parts.label.is_empty() && is_among(parts.operation, DEFINITIONS);
+    if is_in_operation && is_definition(name, after_blanks(value)) {
+        return found(Mistake::NameSecond, parts.operation_at, parts.operation);
+    }
+    None
+}
+
 // Finds the mistake in a word in the operation field that is not an operation.
 fn in_operation<'a>(parts: &Parts<'a>) -> Option<Finding<'a>> {
     let (word, at) = (parts.operation, parts.operation_at);
+    if has_late_label(parts) {
+        return found(Mistake::LateLabel, at, word);
+    }
     if let Some(other) = known_elsewhere(word) {
         return found(Mistake::Other(other), at, word);
     }
@@ -229,7 +272,37 @@ fn in_operand<'a>(parts: &Parts<'a>) -> Option<Finding<'a>> {
     };
     let (_, here) = operand.split_at(at.min(operand.len()));
     let (word, _) = here.split_at(len.min(here.len()));
+    let mistake = with_operation(mistake, parts, word);
     found(mistake, parts.operand_at.saturating_add(at), word)
+}
+
+// Whether a word is the mnemonic of a branch.
+fn is_branch(word: &[u8]) -> bool {
+    match Mnemonic::named(word) {
+        Some(mnemonic) => has_mode(mnemonic, Mode::Relative),
+        None => false,
+    }
+}
+
+// Returns the kind of a mistake in an operand of a line with these parts, given the word that contains it.
+fn with_operation(mistake: Mistake, parts: &Parts, word: &[u8]) -> Mistake {
+    match mistake {
+        Mistake::Sign if is_branch(parts.operation) => Mistake::SignOfBranch,
+        Mistake::TextAmongBytes if parts.operand.starts_with(b"#") => Mistake::TextInImmediate,
+        Mistake::TrailingWords => of_trailing(parts.operation, word),
+        _ => mistake,
+    }
+}
+
+// Returns the kind of the mistake of words after an operand.
+fn of_trailing(operation: &[u8], words: &[u8]) -> Mistake {
+    if is_among(operation, b"DFB DW") && begins_value(words) {
+        Mistake::NoComma
+    } else if is_among(words, b"X Y") {
+        Mistake::Index
+    } else {
+        Mistake::TrailingWords
+    }
 }
 
 // Returns the mistake in an operand whose words are all in valid places: the mistake, where it begins, and its length.
@@ -250,6 +323,10 @@ fn in_parts<'a>(text: &'a [u8], parts: &Parts<'a>) -> Option<Finding<'a>> {
     }
     if !parts.label.is_empty() && is_among(parts.operation, b"= :=") {
         return found(Mistake::Equals, parts.operation_at, parts.operation);
+    }
+    let of_definition = in_definition(parts);
+    if of_definition.is_some() {
+        return of_definition;
     }
     let of_label = in_label(parts);
     if of_label.is_some() {

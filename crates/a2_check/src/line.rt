@@ -2,7 +2,7 @@
 
 ghost use Rattle.std.specs.Prelude.{◌≤◌, length};
 
-use a2_text::{behind_blanks, first_word, front_len, is_blank};
+use a2_text::{after_blanks, first_word, front_len, is_blank};
 
 /// The parts of a line. Indexes count from 0.
 #[derive(Clone, Copy)]
@@ -40,7 +40,7 @@ fn operand_len(text: &[u8]) -> usize
         if quote.is_none() && *c == b';' {
             return end;
         }
-        quote = quote_behind(quote, *c);
+        quote = quote_following(quote, *c);
         if !is_blank(*c) {
             end = i + 1;
         }
@@ -49,7 +49,7 @@ fn operand_len(text: &[u8]) -> usize
 }
 
 // Returns the quote that is open after a character.
-fn quote_behind(open: Option<u8>, c: u8) -> Option<u8> {
+fn quote_following(open: Option<u8>, c: u8) -> Option<u8> {
     match open {
         None if c == b'"' || c == b'\'' => Some(c),
         Some(quote) if c == quote => None,
@@ -72,9 +72,9 @@ fn word_and_rest(text: &[u8]) -> (&[u8], &[u8]) {
 /// Splits a line into its parts.
 pub(crate) fn parts_of(text: &[u8]) -> Parts<'_> {
     let (label, rest) = word_and_rest(text);
-    let here = behind_blanks(rest);
+    let here = after_blanks(rest);
     let (operation, rest) = word_and_rest(here);
-    let there = behind_blanks(rest);
+    let there = after_blanks(rest);
     Parts {
         label,
         operation,
@@ -98,11 +98,11 @@ pub(crate) fn hex_and_rest(text: &[u8]) -> (&[u8], &[u8]) {
 /// Whether a word is one of `words`, in upper or lower case. The words are separated by blanks.
 pub(crate) fn is_among(word: &[u8], words: &[u8]) -> bool {
     let mut rest = words;
-    while let Some((first, behind)) = first_word(rest) {
+    while let Some((first, following)) = first_word(rest) {
         if word.eq_ignore_ascii_case(first) {
             return true;
         }
-        rest = behind;
+        rest = following;
     }
     false
 }

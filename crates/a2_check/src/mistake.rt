@@ -2,6 +2,7 @@
 
 use crate::elsewhere::Elsewhere;
 use crate::line::{Parts, before};
+use a2_text::{after_blanks, split_word};
 
 /// A sentence with placeholders (`@`, `~`, `#`) for words and numbers of the line.
 pub(crate) type Sentence = &'static [u8];
@@ -25,6 +26,7 @@ pub(crate) enum Mistake {
     LongName,
     RegisterName,
     BadName,
+    NameSecond,
     Glued,
     Equals,
     EquWithoutLabel,
@@ -32,15 +34,20 @@ pub(crate) enum Mistake {
     StarOrigin,
     ForcedForm,
     NearMnemonic(&'static str),
+    LateLabel,
     NoOperation,
     NoOperand,
     OpenQuote,
     EmptyText,
     NoText,
     TextAmongBytes,
+    TextInImmediate,
+    TextAfterText,
+    BytesAfterText,
     Sign,
-    HexPrefix,
-    HexSuffix,
+    SignOfBranch,
+    Hexadecimal,
+    Binary,
     BadNumber,
     Brackets,
     Operator,
@@ -50,6 +57,9 @@ pub(crate) enum Mistake {
     OutsideX,
     InsideY,
     Accumulator,
+    AccumulatorValue,
+    Index,
+    NoComma,
     TrailingWords,
     TwoOperations,
     SecondOperand,
@@ -66,12 +76,48 @@ pub(crate) struct Finding<'a> {
     pub word: &'a [u8],
 }
 
-// Returns the digits of a hexadecimal number written as `0x..` or `..h`.
-fn digits_of(word: &[u8]) -> &[u8] {
+/// Returns the digits of a hexadecimal number written as `0x..`, `&..` or `..h`.
+pub(crate) fn digits_of(word: &[u8]) -> &[u8] {
     match word {
         [b'0', b'x' | b'X', digits @ ..] => digits,
+        [b'&', digits @ ..] => digits,
         [digits @ .., b'h' | b'H'] => digits,
         _ => word,
+    }
+}
+
+/// Returns the digits of a binary number written as `0b..`, or as `..b` with at least four digits.
+pub(crate) fn bits_of(word: &[u8]) -> &[u8] {
+    match word {
+        [b'0', b'b' | b'B', digits @ ..] => digits,
+        [digits @ .., b'b' | b'B'] if digits.len() >= 4 => digits,
+        _ => word,
+    }
+}
+
+// Returns what follows a comma and blanks.
+fn after_comma(word: &[u8]) -> &[u8] {
+    match word {
+        [b',', following @ ..] => after_blanks(following),
+        _ => word,
+    }
+}
+
+// Returns the register of an index: the letter X or Y, alone or in parentheses.
+fn register_of(word: &[u8]) -> &[u8] {
+    match word {
+        [b'(' | b'[', register @ .., b')' | b']'] => register,
+        _ => word,
+    }
+}
+
+// Returns the name and the value of a definition that has the name after its first word.
+fn name_and_value<'a>(parts: Parts<'a>) -> (&'a [u8], &'a [u8]) {
+    if parts.label.is_empty() {
+        let (name, following) = split_word(parts.operand);
+        (name, after_blanks(following))
+    } else {
+        (parts.operation, parts.operand)
     }
 }
 
@@ -98,52 +144,63 @@ impl Mistake {
     /// `shown` returns.
     pub(crate) fn what(self) -> Sentence {
         match self {
-            Mistake::ByteOrderMark => b"the text begins with a byte-order mark",
-            Mistake::WideCharacters => b"the text is UTF-16: two bytes a character",
+            Mistake::ByteOrderMark => b"the source begins with a byte-order mark",
+            Mistake::WideCharacters =>
+                b"the source is in UTF-16, with two bytes for each character",
             Mistake::CarriageReturns =>
-                b"the lines end by carriage returns alone, so all is one line",
-            Mistake::CurlyQuote => b"a curly quote is no quote of ASCII",
-            Mistake::HighByte => b"a byte that is no ASCII stands here",
-            Mistake::Comment | Mistake::TrailingWords =>
-                b"a comment begins with `;`, and `@` does not",
-            Mistake::LineNumber => b"`@` is a line number, and lines have none",
-            Mistake::Listing => b"`@` is an address: this is a line of a listing",
-            Mistake::ObjectLine => b"`@` is an address: this is an object line",
+                b"the lines end with carriage returns only, so they are read as one line",
+            Mistake::CurlyQuote => b"curly quotes are not allowed",
+            Mistake::HighByte => b"this byte is not ASCII",
+            Mistake::Comment => b"`@` does not begin a comment",
+            Mistake::TrailingWords => b"unexpected `@`",
+            Mistake::LineNumber => b"`@` looks like a line number, but lines are not numbered",
+            Mistake::Listing => b"`@` is an address, so this is a line of a listing",
+            Mistake::ObjectLine => b"`@` is an address, so this is an object line",
             Mistake::OperationInFirstColumn | Mistake::OtherInFirstColumn(_) =>
-                b"`@` stands in column 1, where a label stands",
-            Mistake::Colon => b"`@` ends with a colon, and a label has none",
-            Mistake::LocalLabel => b"`@` is no name, and there are no local labels",
-            Mistake::LongName => b"a name has at most 32 characters",
-            Mistake::RegisterName | Mistake::Accumulator => b"`@` is the accumulator, and no name",
-            Mistake::BadName => b"`@` is no name",
-            Mistake::Glued => b"no blank stands behind the operation in `@`",
-            Mistake::EquWithoutLabel => b"EQU has no label",
+                b"`@` is in column 1, which is for labels",
+            Mistake::Colon => b"`@` must not end with a colon",
+            Mistake::LocalLabel => b"`@` is not a valid name: there are no local labels",
+            Mistake::LongName => b"the name has more than 32 characters",
+            Mistake::RegisterName | Mistake::Accumulator => b"`@` is the accumulator, not a name",
+            Mistake::BadName => b"`@` is not a valid name",
+            Mistake::NameSecond => b"`@` is before the name, but a name begins in column 1",
+            Mistake::Glued => b"`@` has no blank after the operation",
+            Mistake::EquWithoutLabel => b"EQU needs a label",
             Mistake::ForcedForm | Mistake::Forced =>
-                b"`@`: no spelling forces a form, the value chooses it",
+                b"`@` cannot force an addressing mode: the value of the operand decides it",
             Mistake::Equals
             | Mistake::StarOrigin
             | Mistake::Other(_)
             | Mistake::NearMnemonic(_)
-            | Mistake::NoOperation => b"`@` is no operation here",
-            Mistake::NoOperand => b"`@` has no operand",
+            | Mistake::NoOperation => b"`@` is not an operation of this assembler",
+            Mistake::LateLabel => b"`@` is not an operation; a label begins in column 1",
+            Mistake::NoOperand => b"`@` needs an operand",
             Mistake::OpenQuote => b"the quote is not closed",
-            Mistake::EmptyText => b"a text has at least one character",
-            Mistake::NoText => b"`@` is no text in quotes",
-            Mistake::TextAmongBytes => b"between the quotes of a number stands one character",
-            Mistake::Sign => b"a term has no sign of its own",
-            Mistake::HexPrefix | Mistake::HexSuffix => b"`@` is no number here: hexadecimal is `$`",
-            Mistake::BadNumber => b"`@` is no number, or above 65535",
-            Mistake::Brackets => b"there are no brackets in expressions",
-            Mistake::Operator => b"`@` is no sign of an expression",
-            Mistake::SquareBracket => b"`@` is no parenthesis",
-            Mistake::Slash => b"`/` is not the high byte here",
-            Mistake::OutsideX => b"`,X` stands inside the parentheses",
-            Mistake::InsideY => b"`,Y` stands behind the parentheses",
-            Mistake::TwoOperations => b"a line has one operation",
-            Mistake::SecondOperand => b"`@` has one operand",
+            Mistake::EmptyText => b"ASC needs at least one character",
+            Mistake::NoText => b"`@` is not a text in quotes",
+            Mistake::TextAmongBytes | Mistake::TextInImmediate =>
+                b"only one character is allowed between quotes here",
+            Mistake::TextAfterText | Mistake::BytesAfterText => b"ASC takes only one text",
+            Mistake::Sign | Mistake::SignOfBranch =>
+                b"`@` begins with a sign, which is not allowed",
+            Mistake::Hexadecimal =>
+                b"`@` is not a number here: a hexadecimal number begins with `$`",
+            Mistake::Binary => b"`@` is not a number here: a binary number begins with `%`",
+            Mistake::BadNumber => b"`@` is not a number from 0 to 65535",
+            Mistake::Brackets => b"parentheses are not allowed inside an expression",
+            Mistake::Operator => b"`@` is not an operator",
+            Mistake::SquareBracket => b"`@` is not a parenthesis",
+            Mistake::Slash => b"`/` does not give the high byte",
+            Mistake::OutsideX => b"`,X` belongs inside the parentheses",
+            Mistake::InsideY => b"`,Y` belongs after the parentheses",
+            Mistake::AccumulatorValue => b"`A` is the accumulator, not a value",
+            Mistake::Index => b"an index follows a comma, so `@` is not allowed here",
+            Mistake::NoComma => b"a comma is missing before `@`",
+            Mistake::TwoOperations => b"a line has only one operation",
+            Mistake::SecondOperand => b"`@` takes only one operand",
             Mistake::Missing => b"an expression is missing",
-            Mistake::Strange => b"`@` may not stand here",
-            Mistake::Unclear => b"the line has none of the forms of a line",
+            Mistake::Strange => b"`@` is not allowed here",
+            Mistake::Unclear => b"this is not a valid line",
         }
     }
 
@@ -157,50 +214,70 @@ impl Mistake {
 
     /// Returns the sentence that says how to fix it. `@` stands for the word that `first` returns, and `~` for that of
     /// `second`.
-    pub(crate) fn mend(self, parts: Parts) -> Sentence {
+    pub(crate) fn fix(self, parts: Parts) -> Sentence {
         match self {
-            Mistake::ByteOrderMark => b"save the text without a byte-order mark",
-            Mistake::WideCharacters => b"save the text as ASCII or UTF-8",
-            Mistake::CarriageReturns => b"end each line by a line feed: tr '\\r' '\\n'",
-            Mistake::CurlyQuote => b"write \" or '",
-            Mistake::HighByte => b"write ASCII; a comment alone may hold other bytes",
-            Mistake::Comment => b"write  ; in front of it",
-            Mistake::TrailingWords => b"write  ; @",
-            Mistake::LineNumber => b"leave the number out",
-            Mistake::Listing => b"keep what stands behind the address and the bytes",
-            Mistake::ObjectLine => b"write  ORG $@ and a line  DFB with the bytes",
+            Mistake::ByteOrderMark => b"save it as UTF-8 without a byte-order mark (BOM)",
+            Mistake::WideCharacters => b"save it as ASCII or UTF-8",
+            Mistake::CarriageReturns =>
+                b"end each line with a line feed, as  tr '\\r' '\\n' <OLD >NEW  does",
+            Mistake::CurlyQuote => b"use straight quotes, \" or '",
+            Mistake::HighByte => b"use ASCII characters here; only comments may contain others",
+            Mistake::Comment => b"begin a comment with ;",
+            Mistake::TrailingWords => b"put ; before a comment, or commas between values",
+            Mistake::LineNumber => b"remove the number",
+            Mistake::Listing => b"remove the address and the bytes after it",
+            Mistake::ObjectLine =>
+                b"write  ORG $@, then the bytes in the next line, as in  DFB $A9,$C1",
             Mistake::OperationInFirstColumn => moved(parts.operation),
-            Mistake::OtherInFirstColumn(_) | Mistake::Other(_) => b"write @~",
-            Mistake::Colon | Mistake::Forced | Mistake::NearMnemonic(_) => b"write  @",
-            Mistake::LocalLabel => b"give it a name of its own, as L_@",
-            Mistake::LongName => b"write a shorter name",
-            Mistake::RegisterName | Mistake::Accumulator => b"write another name, as ACC",
-            Mistake::BadName => b"a name is a letter or _, then letters, digits and _",
-            Mistake::Glued => b"write a blank between operation and operand",
-            Mistake::Equals => b"write  @ EQU ~",
-            Mistake::EquWithoutLabel => b"write a name in column 1, as  FIVE EQU 5",
+            Mistake::NameSecond => b"write @ EQU ~",
+            Mistake::LateLabel => b"write @ in column 1",
+            Mistake::OtherInFirstColumn(_) | Mistake::Other(_) => b"@~",
+            Mistake::Colon | Mistake::Forced => b"write @",
+            Mistake::NearMnemonic(_) => b"did you mean @?",
+            Mistake::LocalLabel => b"use a name that no other label has, such as L_@",
+            Mistake::LongName => b"use a name of at most 32 characters",
+            Mistake::RegisterName | Mistake::Accumulator => b"use another name, such as ACC",
+            Mistake::BadName => b"a name begins with a letter or _, then has letters, digits and _",
+            Mistake::Glued => b"put a blank before the operand",
+            Mistake::Equals => b"write @ EQU ~",
+            Mistake::EquWithoutLabel => b"put a name in column 1, as in FIVE EQU 5",
             Mistake::StarOrigin => b"write  ORG @",
             Mistake::ForcedForm => b"write  @ ~",
-            Mistake::NoOperation => b"there are the 56 mnemonics, and ORG EQU DFB DW ASC DS",
-            Mistake::NoOperand => b"write an expression behind it",
-            Mistake::OpenQuote => b"close it, as \"A\" or 'A'",
-            Mistake::EmptyText => b"leave the line out, or write  DS 0",
-            Mistake::NoText => b"write \"..\" with bit 7 set, or '..' without",
-            Mistake::TextAmongBytes => b"write  ASC @",
-            Mistake::Sign => b"write <0@ for the byte, or 0@",
-            Mistake::HexPrefix | Mistake::HexSuffix => b"write $@",
-            Mistake::BadNumber => b"write 1 to 5 digits, $ and 1 to 4, or % and 1 to 16",
-            Mistake::Brackets => b"terms count from left to right: leave the brackets out",
-            Mistake::Operator => b"there are + and - alone: write the result",
-            Mistake::SquareBracket => b"write ( and )",
-            Mistake::Slash => b"write > for it",
-            Mistake::OutsideX => b"write (P,X), or (P),Y with Y",
-            Mistake::InsideY => b"write (P),Y, or (P,X) with X",
-            Mistake::TwoOperations => b"write each in a line of its own",
-            Mistake::SecondOperand => b"leave out what stands behind the comma",
+            Mistake::NoOperation if is_alone(parts) =>
+                b"use one of the 56 mnemonics or a directive; a label begins in column 1",
+            Mistake::NoOperation => b"use one of the 56 mnemonics, or ORG, EQU, DFB, DW, ASC or DS",
+            Mistake::NoOperand => b"write a number or a name after it; ASC needs a text in quotes",
+            Mistake::OpenQuote => b"close it, as in \"A\" or 'A'",
+            Mistake::EmptyText => b"remove the line, or write  DS 0 to keep its label",
+            Mistake::NoText =>
+                b"put it between \" to set bit 7 of each byte, or between ' to clear it",
+            Mistake::TextAmongBytes => b"write one character, or use ASC for a text",
+            Mistake::TextInImmediate => b"write one character, as in @",
+            Mistake::TextAfterText => b"put it in the next line, as in  ASC @",
+            Mistake::BytesAfterText => b"put it in the next line, as in  DFB @",
+            Mistake::Sign =>
+                b"write <0@ for a byte; for a word write its value, such as $FFFF for -1",
+            Mistake::SignOfBranch =>
+                b"write a label, or * and a distance from this line, as in *+4",
+            Mistake::Hexadecimal => b"write $@",
+            Mistake::Binary => b"write %@",
+            Mistake::BadNumber =>
+                b"write 1 to 5 digits, $ and 1 to 4 digits, or % and 1 to 16 digits",
+            Mistake::Brackets => b"remove them: + and - are evaluated from left to right",
+            Mistake::Operator => b"use only + and -, or write the result as a number",
+            Mistake::SquareBracket => b"use ( and )",
+            Mistake::Slash => b"use > instead",
+            Mistake::OutsideX => b"write (P,X) with X, or (P),Y with Y",
+            Mistake::InsideY => b"write (P),Y with Y, or (P,X) with X",
+            Mistake::AccumulatorValue => b"write @ for the letter, or ~ for the number 10",
+            Mistake::Index => b"write ,@ instead",
+            Mistake::NoComma => b"put commas between values, as in 1,2,3",
+            Mistake::TwoOperations => b"put each operation on its own line",
+            Mistake::SecondOperand =>
+                b"remove the comma and what follows it, or use a new line for that",
             Mistake::Missing => b"write a number, a name, a character in quotes or *",
             Mistake::Strange | Mistake::Unclear =>
-                b"a line is LABEL OPERATION OPERAND ; comment, with blanks between",
+                b"begin with a label or a blank, then write an operation and its operand",
         }
     }
 
@@ -210,11 +287,16 @@ impl Mistake {
             Mistake::OtherInFirstColumn(other) | Mistake::Other(other) => other.here,
             Mistake::NearMnemonic(name) => name.as_bytes(),
             Mistake::ObjectLine => unended(word),
-            Mistake::Colon | Mistake::LocalLabel => unmarked(word),
+            Mistake::Colon | Mistake::LocalLabel | Mistake::LateLabel => unmarked(word),
+            Mistake::NameSecond => name_and_value(parts).0,
+            Mistake::TextInImmediate | Mistake::AccumulatorValue => b"#\"A\"",
+            Mistake::TextAfterText | Mistake::BytesAfterText => after_comma(word),
+            Mistake::Index => register_of(word),
             Mistake::Equals => parts.label,
             Mistake::StarOrigin => unstarred(word),
             Mistake::ForcedForm | Mistake::Forced => unforced(word),
-            Mistake::HexPrefix | Mistake::HexSuffix => digits_of(word),
+            Mistake::Hexadecimal => digits_of(word),
+            Mistake::Binary => bits_of(word),
             _ => word,
         }
     }
@@ -222,13 +304,20 @@ impl Mistake {
     /// Returns the word for `~` in the fix.
     pub(crate) fn second<'a>(self, parts: Parts<'a>) -> &'a [u8] {
         match self {
-            Mistake::OtherInFirstColumn(other) => behind_first(other, parts),
+            Mistake::OtherInFirstColumn(other) => after_first_one(other, parts),
             Mistake::Other(other) => kept(other, parts),
             Mistake::Equals | Mistake::ForcedForm => parts.operand,
             Mistake::OperationInFirstColumn => parts.operation,
+            Mistake::NameSecond => name_and_value(parts).1,
+            Mistake::AccumulatorValue => b"#$A",
             _ => b"",
         }
     }
+}
+
+// Whether the operation is the only word of its line.
+fn is_alone(parts: Parts) -> bool {
+    parts.label.is_empty() && parts.operand.is_empty()
 }
 
 // Returns the operand if it is kept after the replacement of another assembler's word. For reserved space only the length is
@@ -252,7 +341,7 @@ fn unstarred(word: &[u8]) -> &[u8] {
 }
 
 // The same for a word in column 1: there the operand is in the operation field.
-fn behind_first<'a>(other: Elsewhere, parts: Parts<'a>) -> &'a [u8] {
+fn after_first_one<'a>(other: Elsewhere, parts: Parts<'a>) -> &'a [u8] {
     if other.keeps_operand() {
         parts.operation
     } else {
@@ -269,10 +358,10 @@ fn unended(word: &[u8]) -> &[u8] {
 }
 
 // Returns the fix for an operation in column 1, which includes the next word if there is one.
-fn moved(behind: &[u8]) -> Sentence {
-    if behind.is_empty() {
-        b"write a blank in front:  @"
+fn moved(following: &[u8]) -> Sentence {
+    if following.is_empty() {
+        b"put a blank before it:  @"
     } else {
-        b"write a blank in front:  @ ~"
+        b"put a blank before it:  @ ~"
     }
 }

@@ -1,7 +1,8 @@
 //! The names of a source: where they are defined, where they are used, and which one is most similar to another.
 
-use crate::line::hex_and_rest;
+use crate::line::{hex_and_rest, run_len};
 use a2_syntax::{Body, Expr, Line, Term};
+use a2_text::number_in;
 use std::alloc::{AllocError, Allocator};
 use strsim::generic_levenshtein;
 
@@ -86,4 +87,28 @@ pub(crate) fn nearest<'a, A: Allocator + Copy>(
 pub(crate) fn is_hexadecimal(name: &[u8]) -> bool {
     let (_, rest) = hex_and_rest(name);
     name.len() <= 4 && rest.is_empty()
+}
+
+// Whether a text is a hexadecimal number that has a decimal digit.
+fn is_hexadecimal_number(text: &[u8]) -> bool {
+    number_in(16, 4, text).is_some() && run_len(text, b"0123456789", false) < text.len()
+}
+
+/// Returns the digits of a hexadecimal number that is written `C1h` or `xC1`, or `None` if a name is not such a number.
+pub(crate) fn marked_hexadecimal(name: &[u8]) -> Option<&[u8]> {
+    match name {
+        [digits @ .., b'h' | b'H'] if is_hexadecimal_number(digits) => Some(digits),
+        [b'x' | b'X', digits @ ..] if is_hexadecimal_number(digits) => Some(digits),
+        _ => None,
+    }
+}
+
+/// Returns the digits of a binary number that is written `b101`, or `None` if a name is not such a number.
+pub(crate) fn marked_binary(name: &[u8]) -> Option<&[u8]> {
+    match name {
+        [b'b' | b'B', digits @ ..] if digits.len() >= 3 && number_in(2, 16, digits).is_some() => {
+            Some(digits)
+        }
+        _ => None,
+    }
 }

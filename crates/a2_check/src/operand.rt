@@ -3,8 +3,8 @@
 ghost use Rattle.std.specs.Prelude.{◌<◌, ◌≤◌, length};
 
 use crate::line::{before, run_len};
-use crate::mistake::Mistake;
-use a2_text::{is_blank, number_in};
+use crate::mistake::{Mistake, bits_of, digits_of};
+use a2_text::{after_blanks, is_blank, number_in};
 
 // The bytes that a name may contain.
 const NAME: &[u8] = b"ABCDEFGHIJKLMNOPQRSTUVWXYZabcdefghijklmnopqrstuvwxyz0123456789_";
@@ -67,10 +67,14 @@ fn in_number(value: Option<u16>) -> Option<Mistake> {
 
 // Finds the mistake in a number that begins with a digit.
 fn in_decimal(word: &[u8]) -> Option<Mistake> {
-    match word {
-        [b'0', b'x' | b'X', ..] => Some(Mistake::HexPrefix),
-        [.., b'h' | b'H'] => Some(Mistake::HexSuffix),
-        _ => in_number(number_in(10, 5, word)),
+    if number_in(10, 5, word).is_some() {
+        None
+    } else if number_in(2, 16, bits_of(word)).is_some() {
+        Some(Mistake::Binary)
+    } else if number_in(16, 4, digits_of(word)).is_some() {
+        Some(Mistake::Hexadecimal)
+    } else {
+        Some(Mistake::BadNumber)
     }
 }
 
@@ -114,7 +118,7 @@ fn in_sign(reader: Reader, word: &[u8]) -> Option<Mistake> {
         [b':'] if reader.is_apart => Some(Mistake::TwoOperations),
         [b':'] => Some(Mistake::Forced),
         [b'\r'] => Some(Mistake::CarriageReturns),
-        [b'/', b'/'] => Some(Mistake::TrailingWords),
+        [b'/', b'/'] => Some(Mistake::Comment),
         [b'/'] if reader.wants_term => Some(Mistake::Slash),
         [b'!'] if reader.wants_term => Some(Mistake::Forced),
         [b'*' | b'/' | b'|' | b'&' | b'^' | b'!' | b'.'] => Some(Mistake::Operator),
@@ -132,7 +136,59 @@ fn is_term(reader: Reader, word: &[u8]) -> bool {
     }
 }
 
-// Finds the mistake in the next word.
+// Whether a text begins with X or Y in parentheses, as other languages index a table.
+fn is_index(text: &[u8]) -> bool {
+    matches!(
+        text,
+        [b'(', b'X' | b'x' | b'Y' | b'y', b')', ..] | [b'[', b'X' | b'x' | b'Y' | b'y', b']', ..]
+    )
+}
+
+// Whether a text begins with the mark of a comment in another language.
+fn is_comment(reader: Reader, text: &[u8]) -> bool {
+    match text {
+        [b'/', b'/' | b'*', ..] | [b'-', b'-', ..] => reader.is_apart || reader.is_front,
+        [b'#', ..] => reader.is_apart && !reader.wants_term,
+        _ => false,
+    }
+}
+
+// Whether a text begins with a hexadecimal number after `&`.
+fn is_after_ampersand(text: &[u8]) -> bool {
+    match text {
+        [b'&', rest @ ..] => {
+            let (digits, _) = rest.split_at(name_len(rest));
+            number_in(16, 4, digits).is_some()
+        }
+        _ => false,
+    }
+}
+
+// Finds a mistake in the characters at the front of a text that are one word only in other languages.
+fn in_front(reader: Reader, text: &[u8]) -> Option<Mistake> {
+    if is_comment(reader, text) {
+        Some(Mistake::Comment)
+    } else if text.starts_with(b": ") {
+        Some(Mistake::TwoOperations)
+    } else if !reader.wants_term && is_index(text) {
+        Some(Mistake::Index)
+    } else if reader.wants_term && is_after_ampersand(text) {
+        Some(Mistake::Hexadecimal)
+    } else {
+        None
+    }
+}
+
+// Finds the mistake in the next word, which is at the front of `rest`.
+fn in_next(reader: Reader, word: &[u8], rest: &[u8]) -> Option<Mistake> {
+    let mistake = in_front(reader, rest);
+    if mistake.is_some() {
+        return mistake;
+    }
+    in_word(reader, word)
+}
+
+// Finds the mistake in a word.
 fn in_word(reader: Reader, word: &[u8]) -> Option<Mistake> {
     if !is_term(reader, word) {
         return in_sign(reader, word);
@@ -144,11 +200,14 @@ fn in_word(reader: Reader, word: &[u8]) -> Option<Mistake> {
             Mistake::Strange
         });
     }
+    if !reader.is_front && is_accumulator(word) {
+        return Some(Mistake::Accumulator);
+    }
     in_term(word)
 }
 
 // Returns the reader after a word without a mistake.
-fn behind(reader: Reader, word: &[u8]) -> Reader {
+fn following(reader: Reader, word: &[u8]) -> Reader {
     let is_term = is_term(reader, word);
     Reader {
         wants_term: !is_term && !matches!(word, [b')']),
@@ -162,8 +221,22 @@ fn behind(reader: Reader, word: &[u8]) -> Reader {
     }
 }
 
+// Finds the accumulator as an immediate value.
+fn in_immediate(operand: &[u8]) -> Option<(Mistake, usize, usize)> {
+    match operand {
+        [b'#', value @ ..] if is_accumulator(after_blanks(value)) => {
+            Some((Mistake::AccumulatorValue, 0, operand.len()))
+        }
+        _ => None,
+    }
+}
+
 /// Returns the first mistake in an operand made of expressions: its kind, where it begins, and the length of its word.
 pub(crate) fn mistake_in(operand: &[u8]) -> Option<(Mistake, usize, usize)> {
+    let in_value = in_immediate(operand);
+    if in_value.is_some() {
+        return in_value;
+    }
     let mut reader = Reader {
         wants_term: true,
         is_front: true,
@@ -176,11 +249,11 @@ pub(crate) fn mistake_in(operand: &[u8]) -> Option<(Mistake, usize, usize)> {
         if matches!(word, [c] if is_blank(*c)) {
             reader.is_apart = true;
         } else {
-            if let Some(mistake) = in_word(reader, word) {
+            if let Some(mistake) = in_next(reader, word, rest) {
                 let at = operand.len().saturating_sub(rest.len());
                 return Some((mistake, at, shown_len(mistake, word, rest)));
             }
-            reader = behind(reader, word);
+            reader = following(reader, word);
         }
         rest = others;
     }
@@ -199,7 +272,21 @@ fn shown_len(mistake: Mistake, word: &[u8], rest: &[u8]) -> usize {
             let (_, others) = rest.split_at(word_len(rest));
             word.len().saturating_add(word_len(others))
         }
+        Mistake::Hexadecimal if rest.starts_with(b"&") => {
+            let (_, others) = rest.split_at(word_len(rest));
+            word.len().saturating_add(word_len(others))
+        }
+        Mistake::Index => 3,
+        Mistake::Comment if !rest.starts_with(b"#") => 2,
         _ => word.len(),
+    }
+}
+
+// Whether an operand begins with `A` as a term.
+fn is_accumulator_in_expression(operand: &[u8]) -> bool {
+    match operand {
+        [b'A' | b'a', rest @ ..] => matches!(after_blanks(rest), [] | [b'+' | b'-' | b',', ..]),
+        _ => false,
     }
 }
 
@@ -210,10 +297,35 @@ fn in_form(operand: &[u8]) -> Option<(Mistake, usize, usize)> {
         Some((Mistake::OutsideX, front.len().saturating_add(1), 2))
     } else if front.starts_with(b"(") && end.eq_ignore_ascii_case(b",Y)") {
         Some((Mistake::InsideY, front.len(), 2))
-    } else if matches!(operand, [b'A' | b'a', b'+' | b'-', ..]) {
+    } else if is_accumulator_in_expression(operand) {
         Some((Mistake::Accumulator, 0, 1))
     } else {
         None
+    }
+}
+
+// Returns the mistake in what follows the text of ASC and a comma.
+fn after_text(following: &[u8]) -> Mistake {
+    let here = after_blanks(following);
+    if here.is_empty() {
+        return Mistake::TrailingWords;
+    }
+    let is_text = here.len() > 3 && is_closed(here) && word_len(here) == here.len();
+    if is_text {
+        Mistake::TextAfterText
+    } else {
+        Mistake::BytesAfterText
+    }
+}
+
+// Finds the mistake in what follows the text of ASC, at an index of the operand.
+fn after_closing_quote(others: &[u8], at: usize) -> (Mistake, usize, usize) {
+    let here = after_blanks(others);
+    let at = at.saturating_add(others.len().saturating_sub(here.len()));
+    match here {
+        [b',', following @ ..] => (after_text(following), at, here.len()),
+        [b'/', b'/' | b'*', ..] | [b'-', b'-', ..] => (Mistake::Comment, at, 2),
+        _ => (Mistake::TrailingWords, at, here.len()),
     }
 }
 
@@ -227,10 +339,7 @@ pub(crate) fn mistake_in_text(operand: &[u8]) -> Option<(Mistake, usize, usize)>
             if !is_closed(text) {
                 return Some((Mistake::OpenQuote, 0, text.len()));
             }
-            match others {
-                [b',', ..] => Some((Mistake::SecondOperand, text.len(), others.len())),
-                _ => Some((Mistake::TrailingWords, text.len(), others.len())),
-            }
+            Some(after_closing_quote(others, text.len()))
         }
         _ => Some((Mistake::NoText, 0, operand.len())),
     }

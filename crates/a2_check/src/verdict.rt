@@ -1,10 +1,10 @@
 //! Checks a source text.
 
 ghost use Rattle.std.specs.Prelude.{◌≡◌, ◌<◌, ◌∷◌, [], IfOk, length};
-ghost use Rattle.a2_syntax.specs.Sources.{IsTextRefusal};
+ghost use Rattle.a2_syntax.specs.Sources.{IsSourceError};
 ghost use Rattle.a2_syntax.specs.declared.fault.Fault.{Fault};
-ghost use Rattle.a2_asm.specs.Every.{AreLayoutRefusals};
-ghost use Rattle.a2_asm.specs.Refusals.{IsLayoutRefusal};
+ghost use Rattle.a2_asm.specs.Every.{AreLayoutErrors};
+ghost use Rattle.a2_asm.specs.Refusals.{IsLayoutError};
 ghost use Rattle.a2_check.specs.Refusals.{AreOfText, AreRefusals, IsVerdict};
 
 use crate::unread::unread;
@@ -32,7 +32,7 @@ fn alone<A: Allocator>(alloc: A, fault: Fault) -> Result<Vec<Fault, A>, AllocErr
 
 // Returns the errors of a text that is too large, or has lines that are not in the grammar.
 fn of_text<A: Allocator + Copy>(alloc: A, text: &[u8]) -> Result<Vec<Fault, A>, AllocError>
-    requires { (fault : Fault) × IsTextRefusal text.now fault }
+    requires { (fault : Fault) × IsSourceError text.now fault }
     ensures { IfOk result (λ faults. AreOfText text.now faults.items) }
 {
     match lines(alloc, text) {
@@ -43,8 +43,8 @@ fn of_text<A: Allocator + Copy>(alloc: A, text: &[u8]) -> Result<Vec<Fault, A>, 
 
 // Returns the layout errors of lines that do not make a program.
 fn of_layout<A: Allocator + Copy>(alloc: A, source: &Source<A>) -> Result<Vec<Fault, A>, AllocError>
-    requires { (fault : Fault) × IsLayoutRefusal source.now fault }
-    ensures told { IfOk result (λ faults. AreLayoutRefusals source.now faults.items) }
+    requires { (fault : Fault) × IsLayoutError source.now fault }
+    ensures errors { IfOk result (λ faults. AreLayoutErrors source.now faults.items) }
     ensures some { IfOk result (λ faults. 0 < length faults.items) }
 {
     refusals(alloc, source)

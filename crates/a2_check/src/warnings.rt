@@ -1,12 +1,16 @@
-//! Warnings about lines that assemble but may not do what their author meant. They are printed as notes.
+//! Warnings about lines that assemble but may not do what their author meant.
 
+mod flow;
 mod lines;
 mod sentences;
 mod statements;
 mod stores;
 
-use crate::warnings::lines::{operation_in_label, sets_no_place, unwritten};
-use crate::warnings::statements::{Begins, kind_of, shows_plain};
+use crate::warnings::flow::{is_unreached, unset_carry};
+use crate::warnings::lines::{is_decimal_address, operation_in_label, sets_no_place, unwritten};
+use crate::warnings::statements::{
+    Begins, kind_of, runs_out_after_service, shows_plain, stores_in_rom,
+};
 use crate::warnings::stores::LowStores;
 use a2_asm::{Program, Statement};
 use a2_syntax::Line;
@@ -28,6 +32,14 @@ pub enum WarningKind {
     Circle,
     /// A character with bit 7 clear is written to the screen.
     Plain,
+    /// A decimal number is used as an address, and its digits are more usual in hexadecimal.
+    Decimal,
+    /// An instruction is never executed.
+    Unreached,
+    /// ADC or SBC uses the carry, and no instruction before it sets the carry.
+    Carry,
+    /// An instruction stores in ROM.
+    Rom,
 }
 
 /// A line that may not do what its author meant, and why.
@@ -55,8 +67,9 @@ fn warn_of_texts<A: Allocator>(
     Ok(())
 }
 
-// Returns the warning for a line of a program, or `None` if there is none.
+// Returns the warning for a line of a program, or `None` if there is none. `text` is the line as written.
 fn kind_of_line<A: Allocator>(
+    text: &[u8],
     line: &Line<A>,
     program: &Program<A>,
     stores: &LowStores,
@@ -67,18 +80,23 @@ fn kind_of_line<A: Allocator>(
     if unwritten(line, program, stores) {
         return Some(WarningKind::Unwritten);
     }
+    if is_decimal_address(line, text) {
+        return Some(WarningKind::Decimal);
+    }
     None
 }
 
 // Adds the warnings that depend on a parsed line and the program.
 fn warn_of_lines<A: Allocator>(
     warnings: &mut Vec<Warning, A>,
+    texts: &[&[u8]],
     lines: &[Line<A>],
     program: &Program<A>,
 ) -> Result<(), AllocError> {
     let stores = LowStores::of(program.statements());
     for (i, line) in lines.iter().enumerate() {
-        if let Some(kind) = kind_of_line(line, program, &stores) {
+        let text = texts.get(i).copied().unwrap_or(b"");
+        if let Some(kind) = kind_of_line(text, line, program, &stores) {
             warnings.push(Warning {
                 line: i.saturating_add(1),
                 kind,
@@ -88,17 +106,24 @@ fn warn_of_lines<A: Allocator>(
     Ok(())
 }
 
-// Returns the warning for a statement, or `None` if there is none. `text` is its line, `behind` are the statements after it.
+// Returns the warning for a statement, or `None` if there is none. `text` is its line, `following` are the statements after it.
 fn kind_of_statement<A: Allocator>(
     text: &[u8],
     statement: &Statement,
-    behind: &[Statement],
+    following: &[Statement],
     begins: &Begins<A>,
 ) -> Option<WarningKind> {
-    if shows_plain(text, statement, behind) {
+    if shows_plain(text, statement, following) {
         return Some(WarningKind::Plain);
     }
-    kind_of(begins, statement)
+    let kind = kind_of(begins, statement);
+    if kind.is_some() {
+        return kind;
+    }
+    if runs_out_after_service(begins, statement) {
+        return Some(WarningKind::RunsOut);
+    }
+    stores_in_rom(statement).then_some(WarningKind::Rom)
 }
 
 // Adds the warnings that depend on the addresses of statements.
@@ -110,20 +135,47 @@ fn warn_of_statements<A: Allocator>(
 ) -> Result<(), AllocError> {
     let begins = Begins::of(alloc, statements)?;
     for (i, statement) in statements.iter().enumerate() {
-        let behind = &statements[i + 1..];
+        let following = &statements[i + 1..];
         let line = usize::from(statement.line);
         let text = texts.get(line.saturating_sub(1)).copied().unwrap_or(b"");
-        if let Some(kind) = kind_of_statement(text, statement, behind, &begins) {
+        if let Some(kind) = kind_of_statement(text, statement, following, &begins) {
             warnings.push(Warning { line, kind })?;
         }
     }
     Ok(())
 }
 
+// Adds the warnings that depend on the order in which statements are executed.
+fn warn_of_flow<A: Allocator>(
+    warnings: &mut Vec<Warning, A>,
+    lines: &[Line<A>],
+    statements: &[Statement],
+) -> Result<(), AllocError> {
+    let mut before: Option<Statement> = None;
+    for statement in statements {
+        if let Some(before) = before {
+            if is_unreached(lines, statements, &before, statement) {
+                warnings.push(Warning {
+                    line: usize::from(statement.line),
+                    kind: WarningKind::Unreached,
+                })?;
+            }
+        }
+        before = Some(*statement);
+    }
+    if let Some(line) = unset_carry(statements) {
+        warnings.push(Warning {
+            line: usize::from(line),
+            kind: WarningKind::Carry,
+        })?;
+    }
+    Ok(())
+}
+
 /// Returns the warnings for a source without errors. `texts` are its lines as written, `lines` the parsed lines, and `program`
-/// is the program that they make. The warnings come in three groups, each in the order of the lines: those from the text of a
-/// line, those from the parsed line, and those from the addresses of statements. Fails only if there is not enough memory. This
-/// project's profile.
+/// is the program that they make. The warnings come in groups, each in the order of the lines: those from the text of a line, those
+/// from the parsed line, those from the addresses of statements, and those from the order of execution. Fails only if there is
+/// not enough memory. This project's profile.
 pub fn warnings_of<A: Allocator + Copy>(
     alloc: A,
     texts: &[&[u8]],
@@ -132,7 +184,8 @@ pub fn warnings_of<A: Allocator + Copy>(
 ) -> Result<Vec<Warning, A>, AllocError> {
     let mut warnings = Vec::new(alloc);
     warn_of_texts(&mut warnings, texts)?;
-    warn_of_lines(&mut warnings, lines, program)?;
+    warn_of_lines(&mut warnings, texts, lines, program)?;
     warn_of_statements(alloc, &mut warnings, texts, program.statements())?;
+    warn_of_flow(&mut warnings, lines, program.statements())?;
     Ok(warnings)
 }

@@ -8,21 +8,27 @@ use a2_text::decimal;
 fn sentence_of(kind: WarningKind) -> &'static [u8] {
     match kind {
         WarningKind::Place =>
-            b"a line with * in column 1 is a comment; ORG behind a blank sets the place: ",
-        WarningKind::Operation =>
-            b"what stands in column 1 is a label; an operation stands behind a blank: ",
+            b"a line with * in column 1 is a comment; to set the address, write ORG after a blank: ",
+        WarningKind::Operation => b"text in column 1 is a label; put a blank before an operation: ",
         WarningKind::Unwritten =>
-            b"this reads a byte that no line stores; # before the number makes it the number: ",
-        WarningKind::RunsOut =>
-            b"no instruction stands behind this one; end with RTS, or go on by JMP: ",
-        WarningKind::Circle => b"this jumps to itself, and never ends; RTS ends a run: ",
+            b"this reads a byte that nothing stores; for the number itself, write # before it: ",
+        WarningKind::RunsOut => b"no instruction follows this one; end with RTS or JMP: ",
+        WarningKind::Circle => b"this jumps to itself and never ends; RTS ends a run: ",
         WarningKind::Plain =>
-            b"a character between ' ' shows inverse or flashing; between \" \" it shows as it is: ",
+            b"a character in ' ' is shown inverse or flashing; in \" \" it is shown normally: ",
+        WarningKind::Decimal =>
+            b"this number is decimal; for a hexadecimal address, write $ before it: ",
+        WarningKind::Unreached =>
+            b"this line is never executed; give it a label to jump to, or remove it: ",
+        WarningKind::Carry =>
+            b"no line before this one sets the carry; write CLC before ADC, or SEC before SBC: ",
+        WarningKind::Rom =>
+            b"this stores in ROM, which does not change; to call a routine there, write JSR: ",
     }
 }
 
-// Writes one note: the name of the source, the number of the line, what the line does, and its text.
-fn put_note<W: Output>(
+// Writes one warning: the name of the source, the number of the line, what the line does, and its text.
+fn put_warning<W: Output>(
     name: &str,
     line: usize,
     what: &[u8],
@@ -31,7 +37,7 @@ fn put_note<W: Output>(
 ) -> Result<(), WriteFault> {
     put_all(&[name.as_bytes(), b":"], writer)?;
     put(decimal(line as u64).as_slice(), writer)?;
-    put_all(&[b": note: ", what, text, b"\n"], writer)
+    put_all(&[b": warning: ", what, text, b"\n"], writer)
 }
 
 /// Writes `warnings` of a source with this `name` and these lines, `texts`. Each is one line of output: the name, the number of
@@ -48,7 +54,7 @@ pub fn put_warnings<W: Output>(
             Some(text) => text.trim_ascii(),
             None => b"",
         };
-        put_note(name, warning.line, sentence_of(warning.kind), text, writer)?;
+        put_warning(name, warning.line, sentence_of(warning.kind), text, writer)?;
     }
     Ok(())
 }

@@ -5,10 +5,12 @@ ghost use Rattle.a2_asm.specs.declared.program.Statement.{Statement as Stated};
 ghost use Rattle.a2_check.specs.Warnings as warnings;
 ghost use Rattle.a2_check.specs.Warnings.{MarksBegins};
 
+use crate::services::is_service;
 use crate::warnings::WarningKind;
 use a2_asm::Statement;
+use a2_effect::stores_operand;
 use a2_opcode::{Instr, Mnemonic, Mode};
-use a2_text::{behind_blanks, front_len};
+use a2_text::{after_blanks, front_len};
 use std::alloc::{AllocError, Allocator};
 use std::marker::Model;
 
@@ -104,19 +106,42 @@ pub(crate) fn kind_of<A: Allocator>(
     if jumps(instr) && instr.value == statement.addr {
         return Some(WarningKind::Circle);
     }
-    let behind = statement.addr.wrapping_add(statement.length);
-    if !leads_away(instr) && !begins.has(behind) {
+    let following = statement.addr.wrapping_add(statement.length);
+    if !leads_away(instr) && !begins.has(following) {
         return Some(WarningKind::RunsOut);
     }
     None
 }
 
+/// Whether a statement calls a service, and no instruction begins after it.
+pub(crate) fn runs_out_after_service<A: Allocator>(
+    begins: &Begins<A>,
+    statement: &Statement,
+) -> bool {
+    match statement.instr {
+        Some(instr) if instr.mnemonic == Mnemonic::Jsr => {
+            is_service(instr.value) && !begins.has(statement.addr.wrapping_add(statement.length))
+        }
+        _ => false,
+    }
+}
+
+/// Whether a statement stores at an address of the Apple's ROM, $D000 to $FFFF.
+pub(crate) fn stores_in_rom(statement: &Statement) -> bool {
+    match statement.instr {
+        Some(instr) => {
+            instr.mode == Mode::Absolute && instr.value >= 0xD000 && stores_operand(instr.mnemonic)
+        }
+        None => false,
+    }
+}
+
 // Returns the text after the first `#` of a line and blanks, or nothing if the line has no `#`.
-fn behind_number_sign(text: &[u8]) -> &[u8]
-    ensures { result.now ≡ warnings.behind_number_sign text.now }
+fn after_number_sign(text: &[u8]) -> &[u8]
+    ensures { result.now ≡ warnings.after_number_sign text.now }
 {
     match &text[front_len(text, |c| c != b'#')..] {
-        [_, rest @ ..] => behind_blanks(rest),
+        [_, rest @ ..] => after_blanks(rest),
         [] => b"",
     }
 }
@@ -137,7 +162,7 @@ fn loads_plain(text: &[u8], instr: Instr) -> bool
 {
     instr.mnemonic == Mnemonic::Lda
         && instr.mode == Mode::Immediate
-        && is_quoted(behind_number_sign(text), instr.value)
+        && is_quoted(after_number_sign(text), instr.value)
 }
 
 // Whether a statement is LDX or LDY.
@@ -165,10 +190,10 @@ fn puts(statement: &Statement) -> bool
 }
 
 // Whether the first of these statements that is not LDX or LDY writes A to the screen.
-fn is_put(behind: &[Statement]) -> bool
-    ensures { result ≡ warnings.is_put behind.now }
+fn is_put(following: &[Statement]) -> bool
+    ensures { result ≡ warnings.is_put following.now }
 {
-    for statement in behind {
+    for statement in following {
         if !loads_index(statement) {
             return puts(statement);
         }
@@ -178,11 +203,11 @@ fn is_put(behind: &[Statement]) -> bool
 
 /// Whether a statement, in a line with this text, loads A with a character with bit 7 clear, and the statements after it write
 /// A to the screen.
-pub(crate) fn shows_plain(text: &[u8], statement: &Statement, behind: &[Statement]) -> bool
-    ensures { result ≡ warnings.shows_plain text.now statement.now behind.now }
+pub(crate) fn shows_plain(text: &[u8], statement: &Statement, following: &[Statement]) -> bool
+    ensures { result ≡ warnings.shows_plain text.now statement.now following.now }
 {
     match statement.instr {
-        Some(instr) => loads_plain(text, instr) && is_put(behind),
+        Some(instr) => loads_plain(text, instr) && is_put(following),
         None => false,
     }
 }

@@ -2,7 +2,7 @@ use Rattle.std.proofs.Common.{◌≢◌, ℕ, List, Bor, map, sym, ap, subst, �
 use Rattle.std.specs.List.{All}
 use Rattle.std.proofs.lemmas.Result.{IfOk-weaker}
 use Rattle.a2_check.proofs.Cuts.{cut-whole}
-use Rattle.a2_check.proofs.Telling.{of-grammar}
+use Rattle.a2_check.proofs.Reporting.{of-grammar}
 use Rattle.a2_check.proofs.verdict.of_text.Goals as goal
 
 pub unread-requires-clause-cut : goal.unread-requires-clause-cut

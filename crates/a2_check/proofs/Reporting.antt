@@ -4,18 +4,18 @@ use Rattle.std.proofs.Math.Seq.{get_or-append_seam}
 use Rattle.a2_text.specs.Lines.{lines}
 use Rattle.a2_syntax.specs.Bare.{BareLine}
 use Rattle.a2_syntax.specs.Grammar.{IsLine}
-use Rattle.a2_syntax.specs.Limits.{size_refusal}
-use Rattle.a2_syntax.specs.Sources.{FirstUnread, IsTextRefusal}
+use Rattle.a2_syntax.specs.Limits.{size_error}
+use Rattle.a2_syntax.specs.Sources.{IsFirstBadLine, IsSourceError}
 use Rattle.a2_syntax.specs.declared.fault.Fault.{Fault}
 use Rattle.a2_syntax.specs.declared.fault.Fault.TheVariants.{Syntax}
-use Rattle.a2_asm.specs.Refusals.{IsLayoutRefusal}
-use Rattle.a2_asm.specs.Every.{AreLayoutRefusals}
+use Rattle.a2_asm.specs.Refusals.{IsLayoutError}
+use Rattle.a2_asm.specs.Every.{AreLayoutErrors}
 use Rattle.a2_asm.proofs.MadeLaws.{refused-no-program}
 use Rattle.a2_check.specs.Unread.{AreUnread}
 use Rattle.a2_check.specs.Refusals.{AreOfText}
 
 -- the number of the first line outside the grammar is among the numbers
-first-among : (texts : List (List ℕ)) (n : ℕ) (numbers : List ℕ) → FirstUnread texts n → AreUnread texts numbers → 0 < length numbers
+first-among : (texts : List (List ℕ)) (n : ℕ) (numbers : List ℕ) → IsFirstBadLine texts n → AreUnread texts numbers → 0 < length numbers
 first-among texts n numbers (before, text, after, whole, number, read, fails) all =
     let count : length texts ≡ length before + suc (length after) = ap length whole ∙ length-append before (text ∷ after) in
     let index : n - 1 ≡ length before = omega (arith, number) in
@@ -26,7 +26,7 @@ first-among texts n numbers (before, text, after, whole, number, read, fails) al
       | inr is ↦ let r = subst P here is in absurd (fails r.0 r.1)
     ]
 
-pub of-grammar : (text : List ℕ) (texts : List (Bor (List ℕ))) (faults : List Fault) → map (λ x. x.now) texts ≡ lines text → size_refusal text ≡ None → (fault : Fault) × IsTextRefusal text fault
+pub of-grammar : (text : List ℕ) (texts : List (Bor (List ℕ))) (faults : List Fault) → map (λ x. x.now) texts ≡ lines text → size_error text ≡ None → (fault : Fault) × IsSourceError text fault
     → (numbers : List ℕ) × (faults ≡ map Syntax numbers) × AreUnread (map (λ x. x.now) texts) numbers → AreOfText text faults
 of-grammar text texts faults e fits (fault, inl large) found = let never : Some fault ≡ None = sym large ∙ fits in cc
 of-grammar text texts faults e fits (fault, inr (_, n, is, first)) (numbers, shown, all) =
@@ -35,6 +35,6 @@ of-grammar text texts faults e fits (fault, inr (_, n, is, first)) (numbers, sho
     inr (fits, (numbers, shown, first-among (lines text) n numbers first among, among))
 
 -- at least one error is reported for lines that do not parse
-pub told-some : (source : List BareLine) (fault : Fault) (told : List Fault) → IsLayoutRefusal source fault → AreLayoutRefusals source told → 0 < length told
-told-some source fault told refused (inl (none, program, is)) = absurd (refused-no-program source fault program refused is)
-told-some source fault told refused (inr (first, layout, _, _, e)) = omega (arith, ap length e)
+pub reported-some : (source : List BareLine) (fault : Fault) (reported : List Fault) → IsLayoutError source fault → AreLayoutErrors source reported → 0 < length reported
+reported-some source fault reported refused (inl (none, program, is)) = absurd (refused-no-program source fault program refused is)
+reported-some source fault reported refused (inr (first, layout, _, _, e)) = omega (arith, ap length e)

@@ -7,13 +7,13 @@ use a2_opcode::Mnemonic;
 /// The message for an error: its place in the line, what is wrong and how to fix it, with the texts for the placeholders of
 /// these two sentences.
 #[derive(Clone, Copy)]
-pub(crate) struct Telling<'a> {
+pub(crate) struct Message<'a> {
     /// The index where the place begins, counted from 0.
     pub at: usize,
     /// The number of characters at the place; 0 is shown as 1.
     pub width: usize,
     pub what: Sentence,
-    pub mend: Sentence,
+    pub fix: Sentence,
     /// The text for `@` in the sentence that says what is wrong.
     pub shown: &'a [u8],
     /// The text for `@` in the fix.
@@ -26,14 +26,14 @@ pub(crate) struct Telling<'a> {
     pub forms: Option<Mnemonic>,
 }
 
-impl<'a> Telling<'a> {
+impl<'a> Message<'a> {
     /// Returns a message with these two sentences at a place, without texts for placeholders.
-    pub(crate) fn new(at: usize, width: usize, what: Sentence, mend: Sentence) -> Telling<'a> {
-        Telling {
+    pub(crate) fn new(at: usize, width: usize, what: Sentence, fix: Sentence) -> Message<'a> {
+        Message {
             at,
             width,
             what,
-            mend,
+            fix,
             shown: b"",
             first: b"",
             second: b"",
@@ -43,8 +43,8 @@ impl<'a> Telling<'a> {
     }
 
     /// Returns the message with this word for `@` in both sentences.
-    pub(crate) fn with_word(self, word: &'a [u8]) -> Telling<'a> {
-        Telling {
+    pub(crate) fn with_word(self, word: &'a [u8]) -> Message<'a> {
+        Message {
             shown: word,
             first: word,
             ..self
@@ -52,24 +52,24 @@ impl<'a> Telling<'a> {
     }
 
     /// Returns the message with this number for `#`.
-    pub(crate) fn with_number(self, number: u16) -> Telling<'a> {
-        Telling { number, ..self }
+    pub(crate) fn with_number(self, number: u16) -> Message<'a> {
+        Message { number, ..self }
     }
 
     /// Returns the message for a mistake in a line with these parts.
-    pub(crate) fn of_finding(finding: Finding<'a>, parts: Parts<'a>) -> Telling<'a> {
+    pub(crate) fn of_finding(finding: Finding<'a>, parts: Parts<'a>) -> Message<'a> {
         let Finding { mistake, at, word } = finding;
-        Telling {
+        Message {
             shown: mistake.shown(parts, word),
             first: mistake.first(parts, word),
             second: mistake.second(parts),
-            ..Telling::new(at, word.len(), mistake.what(), mistake.mend(parts))
+            ..Message::new(at, word.len(), mistake.what(), mistake.fix(parts))
         }
     }
 
     /// Returns the sentence that says what is wrong.
-    pub(crate) fn told(self) -> Told<'a> {
-        Told {
+    pub(crate) fn problem(self) -> FilledSentence<'a> {
+        FilledSentence {
             sentence: self.what,
             first: self.shown,
             second: self.second,
@@ -79,19 +79,19 @@ impl<'a> Telling<'a> {
     }
 
     /// Returns the sentence that says how to fix it.
-    pub(crate) fn told_mend(self) -> Told<'a> {
-        Told {
-            sentence: self.mend,
+    pub(crate) fn fix_sentence(self) -> FilledSentence<'a> {
+        FilledSentence {
+            sentence: self.fix,
             first: self.first,
             forms: self.forms,
-            ..self.told()
+            ..self.problem()
         }
     }
 }
 
 /// A sentence, and the texts for its placeholders.
 #[derive(Clone, Copy)]
-pub(crate) struct Told<'a> {
+pub(crate) struct FilledSentence<'a> {
     pub sentence: Sentence,
     /// The text for `@`.
     pub first: &'a [u8],

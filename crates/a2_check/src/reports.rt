@@ -2,8 +2,8 @@
 
 use crate::checked::{Checked, line_at};
 use crate::forms::put_forms;
+use crate::message::{FilledSentence, Message, shown};
 use crate::probe::with_values;
-use crate::told::{Telling, Told, shown};
 use a2_asm::refused;
 use a2_stream::{Output, WriteFault, put};
 use a2_syntax::{Fault, Line, parse};
@@ -28,7 +28,7 @@ pub enum Format {
 
 /// Why errors cannot be written.
 #[derive(Clone, Copy, Debug, PartialEq, Eq, Error)]
-pub enum TellFault {
+pub enum ReportFault {
     /// A write failed.
     #[error("WRITE FAULT")]
     Write,
@@ -37,15 +37,15 @@ pub enum TellFault {
     Memory,
 }
 
-impl From<AllocError> for TellFault {
-    fn from(_error: AllocError) -> TellFault {
-        TellFault::Memory
+impl From<AllocError> for ReportFault {
+    fn from(_error: AllocError) -> ReportFault {
+        ReportFault::Memory
     }
 }
 
-impl From<WriteFault> for TellFault {
-    fn from(_fault: WriteFault) -> TellFault {
-        TellFault::Write
+impl From<WriteFault> for ReportFault {
+    fn from(_fault: WriteFault) -> ReportFault {
+        ReportFault::Write
     }
 }
 
@@ -96,24 +96,28 @@ fn put_shown<W: Output>(text: &[u8], in_json: bool, writer: &mut W) -> Result<()
 // Writes a byte of a sentence, or the text that it is the placeholder for.
 fn put_marked<W: Output>(
     c: u8,
-    told: Told<'_>,
+    filled: FilledSentence<'_>,
     in_json: bool,
     writer: &mut W,
 ) -> Result<(), WriteFault> {
     match c {
-        b'@' => put_shown(told.first, in_json, writer),
-        b'~' => put_shown(told.second, in_json, writer),
-        b'#' => put_number(usize::from(told.number), writer),
+        b'@' => put_shown(filled.first, in_json, writer),
+        b'~' => put_shown(filled.second, in_json, writer),
+        b'#' => put_number(usize::from(filled.number), writer),
         _ => put_shown(&[c], in_json, writer),
     }
 }
 
 // Writes a sentence with its placeholders replaced.
-fn put_told<W: Output>(told: Told<'_>, in_json: bool, writer: &mut W) -> Result<(), WriteFault> {
-    for c in told.sentence {
-        put_marked(*c, told, in_json, writer)?;
+fn put_message<W: Output>(
+    filled: FilledSentence<'_>,
+    in_json: bool,
+    writer: &mut W,
+) -> Result<(), WriteFault> {
+    for c in filled.sentence {
+        put_marked(*c, filled, in_json, writer)?;
     }
-    match told.forms {
+    match filled.forms {
         Some(mnemonic) => put_forms(mnemonic, writer),
         None => Ok(()),
     }
@@ -141,7 +145,7 @@ struct Report<'a> {
     // The number of that line, or 0 if the error is not in a line.
     line: u16,
     code: &'static [u8],
-    telling: Telling<'a>,
+    message: Message<'a>,
     // Whether the texts are in JSON strings.
     in_json: bool,
 }
@@ -156,7 +160,7 @@ fn form_of(report: Report<'_>, format: Format) -> &'static [u8] {
         Format::Short if report.line == 0 => b"N: error: E: T; M\n",
         Format::Short => b"N:L:C: error: E: T; M\n",
         Format::Json => {
-            b"{\"file\":\"N\",\"line\":L,\"column\":C,\"width\":W,\"code\":\"E\",\"text\":\"T\",\"mend\":\"M\"}"
+            b"{\"file\":\"N\",\"line\":L,\"column\":C,\"width\":W,\"code\":\"E\",\"text\":\"T\",\"fix\":\"M\"}"
         }
     }
 }
@@ -165,26 +169,26 @@ fn form_of(report: Report<'_>, format: Format) -> &'static [u8] {
 fn put_part<W: Output>(part: u8, report: Report<'_>, writer: &mut W) -> Result<(), WriteFault> {
     let Report {
         line,
-        telling,
+        message,
         in_json,
         ..
     } = report;
-    let width = telling.width.max(1);
+    let width = message.width.max(1);
     match part {
         b'N' => put_name(report.name.as_bytes(), in_json, writer),
         b'E' => put(report.code, writer),
         b'L' => put_number(usize::from(line), writer),
         b'C' if line == 0 => put_number(0, writer),
-        b'C' => put_number(telling.at.saturating_add(1), writer),
+        b'C' => put_number(message.at.saturating_add(1), writer),
         b'W' => put_number(width, writer),
-        b'T' => put_told(telling.told(), in_json, writer),
-        b'M' => put_told(telling.told_mend(), in_json, writer),
+        b'T' => put_message(message.problem(), in_json, writer),
+        b'M' => put_message(message.fix_sentence(), in_json, writer),
         b'S' => put_shown(report.text, false, writer),
         b'I' => {
             let digits = decimal(u64::from(line)).len();
             put_times(b' ', 4usize.saturating_sub(digits), writer)
         }
-        b'P' => put_times(b' ', telling.at, writer),
+        b'P' => put_times(b' ', message.at, writer),
         b'U' => put_times(b'^', width, writer),
         _ => put(&[part], writer),
     }
@@ -213,9 +217,9 @@ fn put_count<W: Output>(count: usize, writer: &mut W) -> Result<(), WriteFault> 
     put_number(count, writer)?;
     put(
         if count == 1 {
-            b" refusal\n"
+            b" error\n"
         } else {
-            b" refusals\n"
+            b" errors\n"
         },
         writer,
     )
@@ -229,14 +233,14 @@ fn put_refusal<A: Allocator + Copy, W: Output>(
     front: &[u8],
     format: Format,
     writer: &mut W,
-) -> Result<(), TellFault> {
+) -> Result<(), ReportFault> {
     let line = fault.line();
     let report = Report {
         name: checked.name,
         text: line_at(checked.texts, line),
         line,
         code: code(fault),
-        telling: checked.telling(alloc, fault)?,
+        message: checked.message(alloc, fault)?,
         in_json: format == Format::Json,
     };
     if report.in_json {
@@ -261,7 +265,7 @@ fn put_each<A: Allocator + Copy, W: Output>(
     refusals: &[Fault],
     format: Format,
     writer: &mut W,
-) -> Result<(), TellFault> {
+) -> Result<(), ReportFault> {
     let most = match format {
         Format::Long => MOST_AT_LENGTH.min(refusals.len()),
         Format::Short | Format::Json => refusals.len(),
@@ -283,7 +287,7 @@ fn put_of_lines<'a, A: Allocator + Copy, W: Output>(
     refusals: &[Fault],
     format: Format,
     writer: &mut W,
-) -> Result<(), TellFault> {
+) -> Result<(), ReportFault> {
     let texts = cut(alloc, source)?;
     let values = with_values(alloc, texts.as_slice(), lines, refusals)?;
     let checked = Checked {
@@ -305,7 +309,7 @@ pub fn put_refusals<A: Allocator + Copy, W: Output>(
     refusals: &[Fault],
     format: Format,
     writer: &mut W,
-) -> Result<(), TellFault> {
+) -> Result<(), ReportFault> {
     if refusals.is_empty() {
         return Ok(put_end(format, 0, writer)?);
     }

@@ -1,0 +1,103 @@
+//! Warnings about the order in which statements are executed.
+
+use a2_asm::Statement;
+use a2_opcode::{Instr, Mnemonic, Mode};
+use a2_syntax::Line;
+use std::alloc::Allocator;
+
+// Whether the next instruction in memory is not executed after an instruction, unless another one leads there.
+fn ends(instr: Instr) -> bool {
+    matches!(
+        instr.mnemonic,
+        Mnemonic::Jmp | Mnemonic::Rts | Mnemonic::Rti | Mnemonic::Brk
+    )
+}
+
+// Whether an instruction is directly after one in memory that never continues there.
+fn follows_an_end(before: &Statement, statement: &Statement) -> bool {
+    match (before.instr, statement.instr) {
+        (Some(instr), Some(_)) => {
+            ends(instr) && before.addr.wrapping_add(before.length) == statement.addr
+        }
+        _ => false,
+    }
+}
+
+// Whether one of the lines after line `first`, up to line `last`, has a label. Lines are counted from 1.
+fn has_label<A: Allocator>(lines: &[Line<A>], first: u16, last: u16) -> bool {
+    let (front, _) = lines.split_at(usize::from(last).min(lines.len()));
+    let (_, here) = front.split_at(usize::from(first).min(front.len()));
+    for line in here {
+        if line.label.is_some() {
+            return true;
+        }
+    }
+    false
+}
+
+// Whether the operand of one of these statements is the address of a byte of a statement.
+fn is_led_to(statements: &[Statement], statement: &Statement) -> bool {
+    for other in statements {
+        if let Some(instr) = other.instr {
+            let distance = instr.value.wrapping_sub(statement.addr);
+            if instr.mode != Mode::Immediate && distance < statement.length {
+                return true;
+            }
+        }
+    }
+    false
+}
+
+/// Whether an instruction is never executed: it is directly after `before`, which never continues there, it has no label, and
+/// no operand is its address. `lines` and `statements` are those of the whole source.
+pub(crate) fn is_unreached<A: Allocator>(
+    lines: &[Line<A>],
+    statements: &[Statement],
+    before: &Statement,
+    statement: &Statement,
+) -> bool {
+    follows_an_end(before, statement)
+        && !has_label(lines, before.line, statement.line)
+        && !is_led_to(statements, statement)
+}
+
+// Whether the carry is known after an instruction, or is no longer in question: the instruction sets or tests it, or the next
+// one is not executed, or not at once.
+fn settles_carry(mnemonic: Mnemonic) -> bool {
+    matches!(
+        mnemonic,
+        Mnemonic::Clc
+            | Mnemonic::Sec
+            | Mnemonic::Cmp
+            | Mnemonic::Cpx
+            | Mnemonic::Cpy
+            | Mnemonic::Asl
+            | Mnemonic::Lsr
+            | Mnemonic::Rol
+            | Mnemonic::Ror
+            | Mnemonic::Plp
+            | Mnemonic::Bcc
+            | Mnemonic::Bcs
+            | Mnemonic::Jsr
+            | Mnemonic::Jmp
+            | Mnemonic::Rts
+            | Mnemonic::Rti
+            | Mnemonic::Brk
+    )
+}
+
+/// Returns the number of the line of the first ADC or SBC of a program, or `None` if there is none, or if an instruction before
+/// it may set the carry.
+pub(crate) fn unset_carry(statements: &[Statement]) -> Option<u16> {
+    for statement in statements {
+        if let Some(instr) = statement.instr {
+            if matches!(instr.mnemonic, Mnemonic::Adc | Mnemonic::Sbc) {
+                return Some(statement.line);
+            }
+            if settles_carry(instr.mnemonic) {
+                return None;
+            }
+        }
+    }
+    None
+}
