@@ -1,13 +1,19 @@
-//! Why a run stopped, in words: what stands at PC, which line led there, and what that rests on.
+//! Says in words why a run stopped: what is at PC, which line ran last, and how to fix it.
 //!
-//! How it is called is shown in CALLING.md.
+//! CALLING.md shows how to call it.
 #![tactic(auto)]
 
-mod course;
-mod pushes;
+mod circle;
+mod hook;
+mod lines;
+mod off;
+mod overrun;
+mod places;
+mod replay;
+mod returned;
 mod rounds;
+mod stack;
 mod stop;
 mod window;
 
-pub use course::Course;
-pub use stop::{explain_stop, tell_stop};
+pub use stop::{explain_stop, report_stop};

@@ -1,64 +1,19 @@
-//! A run that goes round in few places.
+//! A run that stays in a loop of few addresses.
 
-use crate::course::{Course, run_to};
-use a2_asm::{Program, Statement};
+use crate::hook::{hook_at, report_hook};
+use crate::lines::put_lines;
+use crate::places::{LOOPED, Place, is_among, place_at, places_of};
+use a2_asm::Statement;
 use a2_bus::locations::KBD;
-use a2_opcode::Mode;
+use a2_machine::Machine;
+use a2_opcode::{Mnemonic, Mode};
 use a2_run::RunFault;
 use a2_stream::{Output, WriteFault, put};
-use a2_symbols::{Scene, put_number, put_place};
-use std::alloc::{AllocError, Allocator};
+use a2_symbols::{Scene, put_number, put_place, statement_at};
+use a2_timed_keys::Ended;
+use std::alloc::Allocator;
 
-// How many steps before the limit are looked at.
-const WATCHED: u32 = 4096;
-
-// The most places of a round that is told.
-const MOST_PLACES: usize = 16;
-
-// Notes a place once: whether there was room.
-fn note<A: Allocator>(places: &mut Vec<u16, A>, pc: u16) -> Result<bool, AllocError> {
-    for place in places.as_slice() {
-        if *place == pc {
-            return Ok(true);
-        }
-    }
-    if places.len() == MOST_PLACES {
-        return Ok(false);
-    }
-    places.push(pc)?;
-    Ok(true)
-}
-
-// Where the last 4,096 of so many steps began; nothing where they were fewer, or began at more than 16 addresses.
-fn places_of<A: Allocator + Copy>(
-    alloc: A,
-    program: &Program<A>,
-    course: &Course<'_>,
-    steps: u32,
-) -> Result<Vec<u16, A>, RunFault> {
-    let mut places = Vec::new(alloc);
-    if steps < WATCHED {
-        return Ok(places);
-    }
-    let (mut machine, _) = run_to(alloc, program, course, steps - WATCHED)?;
-    for _ in 0..WATCHED {
-        if !note(&mut places, machine.regs().pc)? {
-            places.clear();
-            return Ok(places);
-        }
-        // The run is made again, so that the step is there.
-        let _ = machine.step();
-        course.strokes.type_due(&mut machine);
-    }
-    Ok(places)
-}
-
-// Whether the instruction of a statement stands at one of these places.
-fn is_among(statement: &Statement, places: &[u16]) -> bool {
-    statement.instr.is_some() && places.iter().any(|place| *place == statement.addr)
-}
-
-// Whether the instruction of a statement reads the keyboard.
+// Returns whether the instruction of a statement reads the keyboard.
 fn looks_for_key(statement: &Statement) -> bool {
     match statement.instr {
         Some(instr) => instr.mode == Mode::Absolute && instr.value == KBD,
@@ -66,47 +21,203 @@ fn looks_for_key(statement: &Statement) -> bool {
     }
 }
 
-// Writes the lines of a round, and what may be done about it.
-fn put_round<A: Allocator, W: Output>(
+// Where a branch of a loop goes.
+#[derive(Clone, Copy, PartialEq, Eq)]
+enum Way {
+    // It is not a branch, or it stays in the loop.
+    Stays,
+    // It would leave the loop if it branched.
+    LeavesByBranch,
+    // It would leave the loop if it did not branch.
+    LeavesByNext,
+}
+
+// Returns where the branch of a statement goes.
+fn way_of(statement: &Statement, places: &[Place]) -> Way {
+    let Some(instr) = statement.instr else {
+        return Way::Stays;
+    };
+    let next = statement.addr.wrapping_add(statement.length);
+    if instr.mode != Mode::Relative || place_at(places, statement.addr).is_none() {
+        Way::Stays
+    } else if place_at(places, instr.value).is_none() {
+        Way::LeavesByBranch
+    } else if place_at(places, next).is_none() {
+        Way::LeavesByNext
+    } else {
+        Way::Stays
+    }
+}
+
+// Writes whether A, X and Y changed at a place of a loop.
+fn put_change<W: Output>(place: Place, writer: &mut W) -> Result<(), WriteFault> {
+    let change: &[u8] = match (place.is_a_same, place.is_x_same, place.is_y_same) {
+        (true, true, true) => b"A, X and Y never changed there",
+        (false, true, true) => b"A changed there, X and Y did not",
+        (true, false, true) => b"X changed there, A and Y did not",
+        (true, true, false) => b"Y changed there, A and X did not",
+        (false, false, true) => b"A and X changed there, Y did not",
+        (false, true, false) => b"A and Y changed there, X did not",
+        (true, false, false) => b"X and Y changed there, A did not",
+        (false, false, false) => b"A, X and Y changed there",
+    };
+    put(change, writer)
+}
+
+// Writes how a branch that would leave a loop did not leave it.
+fn put_exit<A: Allocator, W: Output>(
     scene: &Scene<A>,
-    places: &[u16],
+    place: Place,
+    way: Way,
+    writer: &mut W,
+) -> Result<(), WriteFault> {
+    put(b"a2lab: ", writer)?;
+    put_place(scene, place.pc, writer)?;
+    put(
+        match way {
+            Way::LeavesByBranch => b" never branched",
+            _ => b" branched each time",
+        },
+        writer,
+    )?;
+    if let Some(before) = place.before {
+        put(b", after ", writer)?;
+        put_place(scene, before, writer)?;
+    }
+    put(b"; ", writer)?;
+    put_change(place, writer)?;
+    put(b"\n", writer)
+}
+
+// Writes how each branch that would leave a loop did not leave it. Returns whether there is one.
+fn put_exits<A: Allocator, W: Output>(
+    scene: &Scene<A>,
+    places: &[Place],
+    writer: &mut W,
+) -> Result<bool, WriteFault> {
+    let mut has_exit = false;
+    for statement in scene.program.statements() {
+        let way = way_of(statement, places);
+        if way == Way::Stays {
+            continue;
+        }
+        if let Some(place) = place_at(places, statement.addr) {
+            put_exit(scene, place, way, writer)?;
+            has_exit = true;
+        }
+    }
+    Ok(has_exit)
+}
+
+// Returns whether a statement is a JMP to itself.
+fn is_own_jump(statement: &Statement) -> bool {
+    match statement.instr {
+        Some(instr) => {
+            instr.mnemonic == Mnemonic::Jmp
+                && instr.mode == Mode::Absolute
+                && instr.value == statement.addr
+        }
+        None => false,
+    }
+}
+
+// Writes which lines a loop has, and which branches would leave it.
+fn put_loop<A: Allocator, W: Output>(
+    scene: &Scene<A>,
+    places: &[Place],
     writer: &mut W,
 ) -> Result<(), WriteFault> {
     put(b"a2lab: the last ", writer)?;
-    put_number(u64::from(WATCHED), writer)?;
-    put(b" steps went round in these lines alone:\n", writer)?;
-    let mut waits = false;
-    for statement in scene.program.statements() {
-        if is_among(statement, places) {
-            waits = waits || looks_for_key(statement);
-            put(b"a2lab:   ", writer)?;
-            put_place(scene, statement.addr, writer)?;
-            put(b"\n", writer)?;
-        }
+    put_number(u64::from(LOOPED), writer)?;
+    put(b" steps were all in ", writer)?;
+    put_lines(scene, places, writer)?;
+    put(b"\n", writer)?;
+    if put_exits(scene, places, writer)? {
+        return put(
+            b"a2lab: change in the loop what its branch tests; if it only needs more steps, raise --limit\n",
+            writer,
+        );
     }
-    let mend: &[u8] = if waits {
-        b"a2lab: they look for a key at $C000: give keys by --keys K, or later ones by --keys-at N:K\n"
-    } else {
-        b"a2lab: nothing there led out: a branch is to find another flag, or --limit to be greater\n"
-    };
-    put(mend, writer)
+    put(
+        b"a2lab: no branch leads out of these lines: add one that leaves the loop\n",
+        writer,
+    )
 }
 
-/// Writes the lines in which the last 4,096 of so many steps went round, where they began at 16 addresses or fewer, of which one
-/// is of the source.
-pub(crate) fn tell_round<A: Allocator + Copy, W: Output>(
-    alloc: A,
+// Writes that a line jumps to itself.
+fn put_own_jump<A: Allocator, W: Output>(
     scene: &Scene<A>,
-    course: &Course<'_>,
-    steps: u32,
+    pc: u16,
     writer: &mut W,
-) -> Result<(), RunFault> {
-    let places = places_of(alloc, scene.program, course, steps)?;
-    let places = places.as_slice();
-    for statement in scene.program.statements() {
-        if is_among(statement, places) {
-            return Ok(put_round(scene, places, writer)?);
+) -> Result<(), WriteFault> {
+    put(b"a2lab: ", writer)?;
+    put_place(scene, pc, writer)?;
+    put(
+        b" jumps to itself, so the program never ends; to end it, write RTS\n",
+        writer,
+    )
+}
+
+// Writes which lines wait for a key.
+fn put_wait<A: Allocator, W: Output>(
+    scene: &Scene<A>,
+    places: &[Place],
+    writer: &mut W,
+) -> Result<(), WriteFault> {
+    put(b"a2lab: it waits for a key in ", writer)?;
+    put_lines(scene, places, writer)?;
+    put(b": use --keys, --keys-at, or a2lab play\n", writer)
+}
+
+// Returns whether a loop waits for a key: it reads the keyboard, no key is there, and a branch leads out.
+fn is_waiting<A: Allocator>(scene: &Scene<A>, machine: &Machine<A>, places: &[Place]) -> bool {
+    let statements = scene.program.statements();
+    let reads = statements
+        .iter()
+        .any(|it| is_among(it, places) && looks_for_key(it));
+    let leaves = statements.iter().any(|it| way_of(it, places) != Way::Stays);
+    reads && leaves && machine.space().waiting().is_empty()
+}
+
+// Writes what is known of a loop with lines of the source.
+fn put_round<A: Allocator, W: Output>(
+    scene: &Scene<A>,
+    machine: &Machine<A>,
+    places: &[Place],
+    writer: &mut W,
+) -> Result<(), WriteFault> {
+    let statements = scene.program.statements();
+    if is_waiting(scene, machine, places) {
+        return put_wait(scene, places, writer);
+    }
+    if let [place] = places {
+        let is_own = match statement_at(statements, place.pc) {
+            Some(statement) => is_own_jump(&statement),
+            None => false,
+        };
+        if is_own {
+            return put_own_jump(scene, place.pc, writer);
         }
     }
-    Ok(())
+    put_loop(scene, places, writer)
+}
+
+/// Writes which lines the loop has in which the last 4,096 steps of a run were, if they began at 64 addresses or fewer, and how its
+/// branches did not leave it. If the loop is a hook that leads to itself, writes what stored the hook.
+pub(crate) fn report_round<A: Allocator + Copy, W: Output>(
+    alloc: A,
+    scene: &Scene<A>,
+    ended: &Ended<'_, A>,
+    writer: &mut W,
+) -> Result<(), RunFault> {
+    let (machine, places) = (ended.machine(), places_of(alloc, ended)?);
+    let places = places.as_slice();
+    let statements = scene.program.statements();
+    if statements.iter().any(|it| is_among(it, places)) {
+        return Ok(put_round(scene, machine, places, writer)?);
+    }
+    match (places, hook_at(machine.regs().pc)) {
+        ([_, ..], Some(hook)) => report_hook(alloc, scene, ended, hook, writer),
+        _ => Ok(()),
+    }
 }

@@ -1,22 +1,23 @@
-//! Which lines put the window and the cursor off the screen.
+//! Which lines moved the window or the cursor off the screen, and blocks that are off it.
 
-use crate::course::{Course, run_to};
-use a2_bus::locations::{CH, CV, WNDBTM, WNDLFT, WNDTOP, WNDWDTH};
+use crate::replay::{Replay, WATCHED};
+use a2_bus::locations::{CH, CV, H2, V2, WNDBTM, WNDLFT, WNDTOP, WNDWDTH};
 use a2_machine::Machine;
 use a2_run::RunFault;
 use a2_services::{Needs, row_of, service_at};
-use a2_stream::{Output, WriteFault, put};
+use a2_stream::{Output, WriteFault, put, put_all};
 use a2_symbols::{Scene, put_place, statement_at};
-use a2_text::hex_pair;
-use std::alloc::Allocator;
-
-/// How many steps before the stop are gone through for what was stored or pushed.
-pub(crate) const WATCHED: u32 = 100_000;
+use a2_text::{decimal, hex_pair};
+use a2_timed_keys::Ended;
+use std::alloc::{AllocError, Allocator};
 
 // The columns and the rows of the screen.
 const COLUMNS: u16 = 40;
 
 const ROWS: u16 = 24;
+
+// The rows of blocks; they have as many columns as the screen.
+const BLOCK_ROWS: u16 = 48;
 
 // A location of the window or the cursor. Apple II Reference Manual (1979), its table of page 0.
 #[derive(Clone, Copy)]
@@ -29,36 +30,36 @@ struct Location {
 static LOCATIONS: [Location; 6] = [
     Location {
         address: WNDLFT,
-        says: b"the window's left edge: with its width, $21, 40 at most, and with the cursor's column, $24, below 40",
+        says: b"the window's left edge; it must be at most 40 with the width ($21) added, and less than 40 with the cursor's column ($24)",
     },
     Location {
         address: WNDWDTH,
-        says: b"the window's width: 1 at least, and with its left edge, $20, 40 at most",
+        says: b"the window's width; it must be at least 1, and at most 40 with the left edge ($20) added",
     },
     Location {
         address: WNDTOP,
-        says: b"the window's top: below its bottom, $23",
+        says: b"the window's top; it must be less than its bottom ($23)",
     },
     Location {
         address: WNDBTM,
-        says: b"the window's bottom: above its top, $22, and 24 at most",
+        says: b"the window's bottom; it must be greater than its top ($22) and at most 24",
     },
     Location {
         address: CH,
-        says: b"the cursor's column: with the window's left edge, $20, below 40",
+        says: b"the cursor's column; it must be less than 40 with the window's left edge ($20) added",
     },
     Location {
         address: CV,
-        says: b"the cursor's row: below 24",
+        says: b"the cursor's row; it must be less than 24",
     },
 ];
 
-// The byte of RAM at an address.
-fn byte_at<A: Allocator>(machine: &Machine<A>, address: u16) -> u8 {
+/// Returns the byte of RAM at an address.
+pub(crate) fn byte_at<A: Allocator>(machine: &Machine<A>, address: u16) -> u8 {
     machine.peek(address).unwrap_or(0)
 }
 
-// Whether a location holds what it may not.
+// Returns whether a location holds a value that it must not hold.
 fn is_amiss<A: Allocator>(machine: &Machine<A>, address: u16) -> bool {
     let left = u16::from(byte_at(machine, WNDLFT));
     let width = u16::from(byte_at(machine, WNDWDTH));
@@ -76,33 +77,44 @@ fn is_amiss<A: Allocator>(machine: &Machine<A>, address: u16) -> bool {
     }
 }
 
-// Where the step began that changed the byte at an address last, of the last 100,000 of so many.
-fn changed_by<A: Allocator + Copy>(
-    alloc: A,
-    scene: &Scene<A>,
-    course: &Course<'_>,
-    address: u16,
-    steps: u32,
-) -> Result<Option<u16>, RunFault> {
-    let watched = steps.min(WATCHED);
-    let (mut machine, _) = run_to(alloc, scene.program, course, steps - watched)?;
-    let mut found = None;
-    let mut before = byte_at(&machine, address);
-    for _ in 0..watched {
-        let pc = machine.regs().pc;
-        // The run is made again, so that the step is there.
-        let _ = machine.step();
-        course.strokes.type_due(&mut machine);
-        let after = byte_at(&machine, address);
-        if after != before {
-            found = Some(pc);
-            before = after;
-        }
-    }
-    Ok(found)
+// The byte at a location, and where the last step began that changed it, if that was seen.
+#[derive(Clone, Copy)]
+struct Seen {
+    byte: u8,
+    changed_by: Option<u16>,
 }
 
-// Writes which line stored a byte at a location, and what may stand there.
+// Returns what is at the locations at the end of a run, and which of its last 100,000 steps changed that.
+fn changes_of<A: Allocator + Copy>(
+    alloc: A,
+    ended: &Ended<'_, A>,
+) -> Result<[Seen; 6], AllocError> {
+    let mut replay = Replay::of(alloc, ended, WATCHED)?;
+    let mut all = [Seen {
+        byte: 0,
+        changed_by: None,
+    }; 6];
+    for (seen, location) in all.iter_mut().zip(&LOCATIONS) {
+        seen.byte = byte_at(replay.machine(), location.address);
+    }
+    for _ in 0..WATCHED {
+        let Some(step) = replay.make() else {
+            return Ok(all);
+        };
+        for (seen, location) in all.iter_mut().zip(&LOCATIONS) {
+            let byte = byte_at(replay.machine(), location.address);
+            if byte != seen.byte {
+                *seen = Seen {
+                    byte,
+                    changed_by: Some(step.regs.pc),
+                };
+            }
+        }
+    }
+    Ok(all)
+}
+
+// Writes which line stored a byte at a location, and what is allowed there.
 fn put_change<A: Allocator, W: Output>(
     scene: &Scene<A>,
     pc: u16,
@@ -122,50 +134,98 @@ fn put_change<A: Allocator, W: Output>(
     put(b"\n", writer)
 }
 
-// Whether a service at an address wants the window on the screen, and not a block.
-fn wants_window(pc: u16) -> bool {
-    match service_at(pc) {
-        Some(service) => matches!(
-            row_of(service).needs,
-            Needs::Window | Needs::Cursor | Needs::Line
-        ),
-        None => false,
+// Writes what a register or location holds, and which values it must have, if it is not below `end`.
+fn put_bound<W: Output>(
+    name: &[u8],
+    value: u8,
+    end: u16,
+    range: &[u8],
+    writer: &mut W,
+) -> Result<(), WriteFault> {
+    if u16::from(value) < end {
+        return Ok(());
+    }
+    let value = decimal(u64::from(value));
+    put_all(
+        &[
+            b"a2lab: ",
+            name,
+            b" is ",
+            value.as_slice(),
+            b"; ",
+            range,
+            b"\n",
+        ],
+        writer,
+    )
+}
+
+// Writes which values of a service for blocks are off the screen.
+fn put_blocks<A: Allocator, W: Output>(
+    machine: &Machine<A>,
+    needs: Needs,
+    writer: &mut W,
+) -> Result<(), WriteFault> {
+    let regs = machine.regs();
+    let row: &[u8] = b"a row of blocks is 0 to 47";
+    let column: &[u8] = b"a column of blocks is 0 to 39";
+    put_bound(b"A", regs.a, BLOCK_ROWS, row, writer)?;
+    put_bound(b"Y", regs.y, COLUMNS, column, writer)?;
+    match needs {
+        Needs::Across => put_bound(b"$2C", byte_at(machine, H2), COLUMNS, column, writer),
+        Needs::Down => put_bound(b"$2D", byte_at(machine, V2), BLOCK_ROWS, row, writer),
+        _ => Ok(()),
     }
 }
 
-/// Writes which lines of the source stored last what the window and the cursor may not hold, of a run that stopped behind so many
-/// steps with PC at `pc`, as far as the last 100,000 steps tell.
-pub(crate) fn tell_window<A: Allocator + Copy, W: Output>(
+// Writes which lines of the source last stored values that the window and the cursor must not have, at the end of a run, as far as
+// its last 100,000 steps show.
+fn report_stores<A: Allocator + Copy, W: Output>(
     alloc: A,
     scene: &Scene<A>,
-    course: &Course<'_>,
-    pc: u16,
-    steps: u32,
+    ended: &Ended<'_, A>,
     writer: &mut W,
 ) -> Result<(), RunFault> {
-    if !wants_window(pc) {
-        return Ok(());
-    }
-    let (machine, _) = run_to(alloc, scene.program, course, steps)?;
-    let mut is_told = false;
-    for location in LOCATIONS.iter() {
-        if !is_amiss(&machine, location.address) {
+    let machine = ended.machine();
+    let changes = changes_of(alloc, ended)?;
+    let mut is_reported = false;
+    for (seen, location) in changes.iter().zip(&LOCATIONS) {
+        if !is_amiss(machine, location.address) {
             continue;
         }
-        let Some(pc) = changed_by(alloc, scene, course, location.address, steps)? else {
+        let Some(pc) = seen.changed_by else {
             continue;
         };
         if statement_at(scene.program.statements(), pc).is_some() {
-            let byte = byte_at(&machine, location.address);
-            put_change(scene, pc, byte, location, writer)?;
-            is_told = true;
+            put_change(scene, pc, seen.byte, location, writer)?;
+            is_reported = true;
         }
     }
-    if is_told {
+    if is_reported {
         put(
-            b"a2lab: bytes of a program's own are safe below $20\n",
+            b"a2lab: a program can safely keep its own bytes below $20\n",
             writer,
         )?;
     }
     Ok(())
+}
+
+/// Writes which values the service at PC must not have, at the end of a run: of the window and the cursor, with the lines of the source
+/// that stored them, or of blocks.
+pub(crate) fn report_window<A: Allocator + Copy, W: Output>(
+    alloc: A,
+    scene: &Scene<A>,
+    ended: &Ended<'_, A>,
+    writer: &mut W,
+) -> Result<(), RunFault> {
+    let machine = ended.machine();
+    let Some(service) = service_at(machine.regs().pc) else {
+        return Ok(());
+    };
+    match row_of(service).needs {
+        Needs::Block | Needs::Across | Needs::Down => {
+            Ok(put_blocks(machine, row_of(service).needs, writer)?)
+        }
+        _ => report_stores(alloc, scene, ended, writer),
+    }
 }
