@@ -3,7 +3,7 @@
 use a2_play::Clock;
 use std::time::Instant;
 
-/// The clock of the system, from its first look on.
+/// The clock of the system, which starts at 0 when it is made.
 #[derive(Drop)]
 pub struct HostClock<'a> {
     rt: &'a HostRuntime,
@@ -12,7 +12,7 @@ pub struct HostClock<'a> {
 }
 
 impl<'a> HostClock<'a> {
-    /// The clock that `rt` reaches.
+    /// Starts the clock.
     pub fn new(rt: &'a HostRuntime) -> HostClock<'a> {
         HostClock {
             rt,

@@ -1,5 +1,0 @@
-pub mod ColumnLaws
-pub mod NamedLaws
-pub mod ReleaseLaws
-pub mod WordLaws
-pub mod PlayLaws

@@ -1,0 +1,3 @@
+pub mod ColourNames
+pub mod Drafts
+pub mod RunWords

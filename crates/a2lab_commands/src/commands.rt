@@ -1,0 +1,340 @@
+//! The commands: a row for each, in the order of the help page.
+//!
+//! `tests/commands` reads these rows as they are laid out here. It writes the manual's tables, the man page and the completions of
+//! shells from them and from the rows of options.
+
+ghost use Rattle.std.specs.Prelude.{◌≡◌, IfSome};
+
+use crate::options::{
+    CHECK_OPTIONS, DEBUG_OPTIONS, FILM_OPTIONS, FMT_OPTIONS, IMPORT_OPTIONS, LIST_OPTIONS,
+    MON_OPTIONS, PLAY_OPTIONS, PROFILE_OPTIONS, PROMISE_OPTIONS, RUN_OPTIONS, TEST_OPTIONS,
+    TRACE_OPTIONS,
+};
+use a2_arguments::{Command, Files};
+
+/// What a command does.
+#[derive(Clone, Copy, Debug, PartialEq, Eq)]
+pub enum Tool {
+    Check,
+    Debug,
+    Film,
+    Fmt,
+    Help,
+    Import,
+    List,
+    Mon,
+    Play,
+    Profile,
+    Promise,
+    Run,
+    Test,
+    Trace,
+}
+
+/// A command, and what it does.
+#[derive(Clone, Copy, Debug)]
+pub struct CommandRow {
+    pub tool: Tool,
+    pub command: Command,
+}
+
+// The source of a command that can read it from standard input.
+const ONE_SOURCE: Files = Files {
+    form: "[F]",
+    endings: ".s",
+    least: 0,
+    most: 1,
+};
+
+// The source of a session, whose standard input has lines or keys.
+const NAMED_SOURCE: Files = Files {
+    form: "F",
+    endings: ".s",
+    least: 1,
+    most: 1,
+};
+
+const SOURCES: Files = Files {
+    form: "[F..]",
+    endings: ".s",
+    least: 0,
+    most: usize::MAX,
+};
+
+// What help says of places in memory.
+const PLACES: &str =
+    "P is $300, a name of F, or one of these with a number added, as in NAME+2. P..P
+may be one place.
+";
+
+const PLACES_AND_LINES: &str =
+    "P is $300, a name of F, a line of F as 12:, or one of these with a number
+added, as in NAME+2. P..P may be one place.
+";
+
+/// All commands, in the order of the help page.
+static TOOLS: [Tool; 14] = [
+    Tool::Run,
+    Tool::Check,
+    Tool::List,
+    Tool::Trace,
+    Tool::Profile,
+    Tool::Film,
+    Tool::Fmt,
+    Tool::Import,
+    Tool::Test,
+    Tool::Promise,
+    Tool::Mon,
+    Tool::Play,
+    Tool::Debug,
+    Tool::Help,
+];
+
+// (A function for each row, for the prover: a table of all rows would be in each of its goals.)
+
+fn run_row() -> CommandRow {
+    CommandRow {
+        tool: Tool::Run,
+        command: Command {
+            name: "run",
+            summary: "runs F as a2 does, and says why it stopped",
+            files: ONE_SOURCE,
+            options: &RUN_OPTIONS,
+            notes: PLACES_AND_LINES,
+        },
+    }
+}
+
+fn check_row() -> CommandRow {
+    CommandRow {
+        tool: Tool::Check,
+        command: Command {
+            name: "check",
+            summary: "reports all errors of F, each with its fix",
+            files: SOURCES,
+            options: &CHECK_OPTIONS,
+            notes: "",
+        },
+    }
+}
+
+fn list_row() -> CommandRow {
+    CommandRow {
+        tool: Tool::List,
+        command: Command {
+            name: "list",
+            summary: "lists F with addresses, bytes and names",
+            files: ONE_SOURCE,
+            options: &LIST_OPTIONS,
+            notes: "",
+        },
+    }
+}
+
+fn trace_row() -> CommandRow {
+    CommandRow {
+        tool: Tool::Trace,
+        command: Command {
+            name: "trace",
+            summary: "runs F, and prints a line for each step",
+            files: ONE_SOURCE,
+            options: &TRACE_OPTIONS,
+            notes: PLACES,
+        },
+    }
+}
+
+fn profile_row() -> CommandRow {
+    CommandRow {
+        tool: Tool::Profile,
+        command: Command {
+            name: "profile",
+            summary: "runs F, and counts how often each line was executed",
+            files: ONE_SOURCE,
+            options: &PROFILE_OPTIONS,
+            notes: "",
+        },
+    }
+}
+
+fn film_row() -> CommandRow {
+    CommandRow {
+        tool: Tool::Film,
+        command: Command {
+            name: "film",
+            summary: "writes the run of F as a web page that goes forwards and backwards",
+            files: ONE_SOURCE,
+            options: &FILM_OPTIONS,
+            notes: "",
+        },
+    }
+}
+
+fn fmt_row() -> CommandRow {
+    CommandRow {
+        tool: Tool::Fmt,
+        command: Command {
+            name: "fmt",
+            summary: "lays out F in columns",
+            files: SOURCES,
+            options: &FMT_OPTIONS,
+            notes: "",
+        },
+    }
+}
+
+fn import_row() -> CommandRow {
+    CommandRow {
+        tool: Tool::Import,
+        command: Command {
+            name: "import",
+            summary: "converts F, a source for another assembler or a listing",
+            files: ONE_SOURCE,
+            options: &IMPORT_OPTIONS,
+            notes: "What changed in F, and what could not be converted, goes to standard error.
+",
+        },
+    }
+}
+
+fn test_row() -> CommandRow {
+    CommandRow {
+        tool: Tool::Test,
+        command: Command {
+            name: "test",
+            summary: "tests the solutions F with the cases of WANT",
+            files: Files {
+                form: "WANT F..",
+                endings: ".want,.s",
+                least: 2,
+                most: usize::MAX,
+            },
+            options: &TEST_OPTIONS,
+            notes: "",
+        },
+    }
+}
+
+fn promise_row() -> CommandRow {
+    CommandRow {
+        tool: Tool::Promise,
+        command: Command {
+            name: "promise",
+            summary: "tries what routines of F promise in comments",
+            files: ONE_SOURCE,
+            options: &PROMISE_OPTIONS,
+            notes: "A promise is in lines that begin with ;: before a label of F:
+
+  ;: requires $10 <= 100 and $11 <= 100
+  ;: ensures  A = old $10 + old $11
+  ;: changes  A
+
+takes \"YES\\r\" types keys for it, and prints \"OK\\r\" says what it prints.
+",
+        },
+    }
+}
+
+fn mon_row() -> CommandRow {
+    CommandRow {
+        tool: Tool::Mon,
+        command: Command {
+            name: "mon",
+            summary: "answers Monitor lines as you type them",
+            files: Files {
+                form: "[F]",
+                endings: ".s",
+                least: 0,
+                most: 1,
+            },
+            options: &MON_OPTIONS,
+            notes: "F is object lines or a source. It is loaded first.
+",
+        },
+    }
+}
+
+fn play_row() -> CommandRow {
+    CommandRow {
+        tool: Tool::Play,
+        command: Command {
+            name: "play",
+            summary: "runs F at a terminal, with the keys you type",
+            files: NAMED_SOURCE,
+            options: &PLAY_OPTIONS,
+            notes: "Keys go to the program. Ctrl-] and a letter is a command: q quits, p pauses and
+goes on, s makes a step, b goes back a second, d opens the debugger, + and -
+change the pace, r starts again, k prints the keys at the end, l redraws.
+",
+        },
+    }
+}
+
+fn debug_row() -> CommandRow {
+    CommandRow {
+        tool: Tool::Debug,
+        command: Command {
+            name: "debug",
+            summary: "steps through the run of F in both directions, line by line",
+            files: NAMED_SOURCE,
+            options: &DEBUG_OPTIONS,
+            notes: "",
+        },
+    }
+}
+
+fn help_row() -> CommandRow {
+    CommandRow {
+        tool: Tool::Help,
+        command: Command {
+            name: "help",
+            summary: "prints this page, or explains a command, an error, an instruction or a service",
+            files: Files {
+                form: "[NAME]",
+                endings: "",
+                least: 0,
+                most: 1,
+            },
+            options: &[],
+            notes: "",
+        },
+    }
+}
+
+/// Returns the row of a command.
+pub fn row_of(tool: Tool) -> CommandRow {
+    match tool {
+        Tool::Check => check_row(),
+        Tool::Debug => debug_row(),
+        Tool::Film => film_row(),
+        Tool::Fmt => fmt_row(),
+        Tool::Help => help_row(),
+        Tool::Import => import_row(),
+        Tool::List => list_row(),
+        Tool::Mon => mon_row(),
+        Tool::Play => play_row(),
+        Tool::Profile => profile_row(),
+        Tool::Promise => promise_row(),
+        Tool::Run => run_row(),
+        Tool::Test => test_row(),
+        Tool::Trace => trace_row(),
+    }
+}
+
+/// Returns all commands, in the order of the help page.
+pub fn all_commands() -> &'static [Tool] {
+    &TOOLS
+}
+
+/// Returns the command of this name, or `None` if there is none.
+pub fn command_named(name: &str) -> Option<CommandRow>
+    ensures { IfSome result (λ row. row.command.name.now ≡ name.now) }
+{
+    for tool in all_commands() {
+        let row = row_of(*tool);
+        if row.command.name == name {
+            return Some(row);
+        }
+    }
+    None
+}

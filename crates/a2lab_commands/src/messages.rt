@@ -1,0 +1,159 @@
+//! The messages of `a2lab`: a row for each, with what is wrong and what to do.
+
+use a2_stream::{Output, WriteFault, put};
+use a2_text::decimal;
+
+/// A message on standard error. Messages that begin with one argument, such as a command, have it as their first value.
+#[derive(Clone, Copy)]
+pub enum Message {
+    NotUtf8,
+    UnknownCommand,
+    UnknownCommandNear,
+    FileForCommand,
+    BadKeys,
+    UnknownTopic,
+    UnknownTopicNear,
+    CannotOpen,
+    CannotRead,
+    NeedsFile,
+    UnknownPlace,
+    PartOutsideRam,
+    ImageOverwrites,
+    KeysAtForm,
+    KeysAtKeys,
+    KeysAtFull,
+    KeysAtUntyped,
+    KeysAtWithLast,
+    RecordLine,
+    RecordOfAnotherSource,
+    ReplayWithOption,
+    SessionNotReached,
+    CallsWithOption,
+    ScriptLine,
+    PageOverwrites,
+    TestLine,
+    NoPromise,
+    NoFailure,
+    FilmOverwrites,
+    CannotLayOut,
+    CheckWithWrite,
+    SeveralFiles,
+    WriteWithoutFiles,
+    KeysOverwrite,
+    KeysNotWritten,
+    UnknownPace,
+    PlayWithoutTerminal,
+    PlayWithoutKeys,
+    SmallTerminal,
+    SmallTerminalForPanes,
+}
+
+/// A value that a message names.
+#[derive(Clone, Copy)]
+pub enum Value<'a> {
+    Text(&'a str),
+    Bytes(&'a [u8]),
+    Number(u64),
+}
+
+// A message's sentence, in which `@` is where the next value goes.
+fn sentence(message: Message) -> &'static str {
+    match message {
+        Message::NotUtf8 =>
+            "an argument is not valid UTF-8; rename the file, or give the source on standard input",
+        Message::UnknownCommand => "unknown command @; a2lab help lists all commands",
+        Message::UnknownCommandNear => "unknown command @; did you mean @?",
+        Message::FileForCommand => "unknown command @; did you mean a2lab run @?",
+        Message::BadKeys =>
+            "@: --keys @: expected at most 4096 keys: the characters from space to ~, \\r for RETURN, \\b and \\f for the arrows, \\x for Ctrl-X, \\\\ for \\",
+        Message::UnknownTopic =>
+            "help: unknown topic @; topics are commands, errors, causes of a stop, operations and services",
+        Message::UnknownTopicNear => "help: unknown topic @; did you mean @?",
+        Message::CannotOpen => "cannot open @",
+        Message::CannotRead => "@: cannot read @",
+        Message::NeedsFile =>
+            "@: needs a file, because standard input is for what you type (a2lab help @)",
+        Message::UnknownPlace =>
+            "@ @: unknown place; write $300, a label, NAME+2, or two of these with .. between them, the lower one first",
+        Message::PartOutsideRam => "run: --mem @: not all of this is in RAM, which ends at $BFFF",
+        Message::ImageOverwrites => "run: the image would overwrite @; give --save another name",
+        Message::KeysAtForm =>
+            "run: --keys-at @: expected a step from 0 to 100000000, a colon and keys, such as 1200:HI\\r",
+        Message::KeysAtKeys =>
+            "run: --keys-at @: expected keys: the characters from space to ~, \\r for RETURN, \\b and \\f for the arrows, \\x for Ctrl-X, \\\\ for \\",
+        Message::KeysAtFull =>
+            "run: more than 4096 keys would be waiting after step @; type some of them later",
+        Message::KeysAtUntyped =>
+            "run: the run ended after @ steps, so the keys for step @ were not typed",
+        Message::KeysAtWithLast =>
+            "run: --last cannot be combined with --keys-at; use a2lab debug F to step through such a run",
+        Message::RecordLine =>
+            "--replay @, line @: expected a step and the code of a key, as in 1200 41, or as the last line 2000 END",
+        Message::RecordOfAnotherSource =>
+            "run: --replay @: this is a recording of another source; give the source that was played",
+        Message::ReplayWithOption =>
+            "--replay cannot be combined with @, because the recording has the keys and the steps",
+        Message::SessionNotReached =>
+            "debug: --replay @: this is a recording of another source, or of more than 100000000 steps",
+        Message::CallsWithOption =>
+            "trace: --calls cannot be combined with @, because it shows the routines of the whole run",
+        Message::ScriptLine =>
+            "film: @, line @: not a chapter; write 120 TEXT or line 12 TEXT (a2lab help film)",
+        Message::PageOverwrites => "film: the page would overwrite @; give -o another name",
+        Message::TestLine =>
+            "test: @, line @: expected case, keys, limit, call, screen, mem, reg, stop, cycles, bytes or must, not: @",
+        Message::NoPromise =>
+            "promise: @ has no promises; write lines such as ;: ensures A = old A + 1 before a label (a2lab help promise)",
+        Message::NoFailure => "promise: no routine failed, so the film @ was not written",
+        Message::FilmOverwrites => "promise: the film would overwrite @; give --film another name",
+        Message::CannotLayOut =>
+            "fmt: @: in columns it would be longer than 65536 bytes, or would no longer mean the same, so it is unchanged; split it",
+        Message::CheckWithWrite => "fmt: --check and -w cannot be combined; give one of them",
+        Message::SeveralFiles => "fmt: several files need --check or -w",
+        Message::WriteWithoutFiles => "fmt: -w needs the names of the files to rewrite",
+        Message::KeysOverwrite => "play: the keys would overwrite @; give --record another name",
+        Message::KeysNotWritten => "play: cannot write the keys to @; it is unchanged",
+        Message::UnknownPace =>
+            "play: --pace @ is neither max nor a number of cycles per second from 1000 to 1000000000",
+        Message::PlayWithoutTerminal =>
+            "play: standard input and output must be a terminal; a2lab run --keys K F runs without one",
+        Message::PlayWithoutKeys =>
+            "play: the terminal is not set up for keys; start it by the command a2lab, not by the program lib/a2/a2lab",
+        Message::SmallTerminal => "play: the terminal has @x@ characters; make it at least 80x24",
+        Message::SmallTerminalForPanes =>
+            "debug: --tui needs a terminal of at least 80 columns and 24 rows",
+    }
+}
+
+// Writes a value.
+fn put_value<'a, W: Output>(value: Value<'a>, writer: &mut W) -> Result<(), WriteFault> {
+    match value {
+        Value::Text(text) => put(text.as_bytes(), writer),
+        Value::Bytes(bytes) => put(bytes, writer),
+        Value::Number(number) => put(decimal(number).as_slice(), writer),
+    }
+}
+
+// Writes a sentence with its values.
+fn put_sentence<W: Output>(
+    sentence: &str,
+    values: &[Value<'_>],
+    writer: &mut W,
+) -> Result<(), WriteFault> {
+    let mut rest = sentence;
+    for value in values {
+        if let Some((front, after)) = rest.split_once('@') {
+            put(front.as_bytes(), writer)?;
+            put_value(*value, writer)?;
+            rest = after;
+        }
+    }
+    put(rest.as_bytes(), writer)
+}
+
+/// Writes a message as a line that begins with the program's name. If a write fails, there is no place left to report it.
+pub fn report<E: Output>(message: Message, values: &[Value<'_>], complaints: &mut E) {
+    let _ = put(b"a2lab: ", complaints);
+    let _ = put_sentence(sentence(message), values, complaints);
+    let _ = put(b"\n", complaints);
+}

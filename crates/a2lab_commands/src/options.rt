@@ -1,0 +1,241 @@
+//! The options of the commands: a row for each, and the list of each command.
+//!
+//! `tests/commands` reads these rows as they are laid out here.
+
+use a2_arguments::{OptionRow, Value};
+
+// A row: the kind of its value, its name, the name of its value, which values it takes, what is used without it, and its sentence. An
+// option of `Texts` may be given more than once.
+macro_rules! row {
+    (Flag $name:literal, $sentence:literal) => {
+        OptionRow {
+            name: $name,
+            value: Value::Flag,
+            placeholder: "",
+            default: "",
+            repeat: false,
+            sentence: $sentence,
+        }
+    };
+    (Text $name:literal $placeholder:literal or $default:literal, $sentence:literal) => {
+        OptionRow {
+            name: $name,
+            value: Value::Text,
+            placeholder: $placeholder,
+            default: $default,
+            repeat: false,
+            sentence: $sentence,
+        }
+    };
+    (Texts $name:literal $placeholder:literal, $sentence:literal) => {
+        OptionRow {
+            name: $name,
+            value: Value::Text,
+            placeholder: $placeholder,
+            default: "",
+            repeat: true,
+            sentence: $sentence,
+        }
+    };
+    (Number $name:literal $placeholder:literal $least:literal to $most:literal or $default:literal, $sentence:literal) => {
+        OptionRow {
+            name: $name,
+            value: Value::Number {
+                least: $least,
+                most: $most,
+            },
+            placeholder: $placeholder,
+            default: $default,
+            repeat: false,
+            sentence: $sentence,
+        }
+    };
+    (OneOf $name:literal $placeholder:literal [$($text:literal),*] or $default:literal, $sentence:literal) => {
+        OptionRow {
+            name: $name,
+            value: Value::OneOf(&[$($text),*]),
+            placeholder: $placeholder,
+            default: $default,
+            repeat: false,
+            sentence: $sentence,
+        }
+    };
+}
+
+// Of every run.
+
+pub const KEYS: OptionRow = row!(Text "--keys" "K" or "",
+    "Types the keys K, which all wait from the start; \\r is RETURN.");
+
+pub const LIMIT: OptionRow = row!(Number "--limit" "N" 0 to 100_000_000 or "1000000",
+    "Stops the run after N steps.");
+
+pub const FREE: OptionRow = row!(Flag "--free",
+    "Runs without the guard: code may begin anywhere, and may be overwritten.");
+
+// Of `run`.
+
+pub const MEM: OptionRow = row!(Texts "--mem" "P..P",
+    "Prints the bytes of RAM from one place to another after the run.");
+
+pub const SAVE: OptionRow = row!(Text "--save" "IMAGE" or "",
+    "Writes all of RAM after the run to the file IMAGE, as object lines.");
+
+pub const LAST: OptionRow = row!(Number "--last" "N" 0 to 100_000_000 or "",
+    "Prints the last N steps on standard error, as trace does.");
+
+pub const KEYS_AT: OptionRow = row!(Texts "--keys-at" "N:K",
+    "Types the keys K after N steps, as in 1200:HI\\r.");
+
+pub const REPLAY: OptionRow = row!(Text "--replay" "T" or "",
+    "Repeats the session that a2lab play --record T recorded; no other option goes with it.");
+
+// Of `check`.
+
+pub const CHECK_FORMAT: OptionRow =
+    row!(OneOf "--format" "FORMAT" ["long", "short", "json"] or "long",
+    "Prints errors at length, one per line for editors, or as JSON.");
+
+// Of `list`.
+
+pub const CYCLES: OptionRow = row!(Flag "--cycles",
+    "Adds the cycles of each instruction; + means that it may take more.");
+
+pub const NAMES: OptionRow = row!(Flag "--names",
+    "Ends with a table of the names: the line that defines each, and those that use it.");
+
+// Of `trace`.
+
+pub const CALLS: OptionRow = row!(Flag "--calls",
+    "Shows the routines of the whole run as a tree, instead of its steps.");
+
+pub const TRACE_FROM: OptionRow = row!(Number "--from" "N" 0 to 100_000_000 or "0",
+    "Shows step N and later ones.");
+
+pub const TRACE_LAST: OptionRow = row!(Number "--last" "N" 0 to 100_000_000 or "",
+    "Shows only the last N of the steps that the other options choose.");
+
+pub const ONLY: OptionRow = row!(Text "--only" "P..P" or "",
+    "Shows only steps with PC at these places.");
+
+pub const STORES: OptionRow = row!(Text "--stores" "P..P" or "",
+    "Shows only steps that store at these places.");
+
+// Of `profile`.
+
+pub const BY: OptionRow = row!(OneOf "--by" "UNIT" ["line", "routine"] or "line",
+    "Counts by line, or by routine that a JSR entered.");
+
+pub const PROFILE_FORMAT: OptionRow =
+    row!(OneOf "--format" "FORMAT" ["text", "json", "callgrind"] or "text",
+    "Writes a table, JSON, or a file for callgrind_annotate and KCachegrind.");
+
+pub const PROFILE_KEYS: OptionRow = row!(Texts "--keys" "K",
+    "Types the keys K, which all wait from the start; each --keys makes a run, and the counts are added up.");
+
+// Of `film`.
+
+pub const PAGE: OptionRow = row!(Text "-o" "PAGE" or "",
+    "Writes the page to the file PAGE.");
+
+pub const FILM_FROM: OptionRow = row!(Number "--from" "N" 0 to 100_000_000 or "0",
+    "Begins the film after N steps of the run.");
+
+pub const STEPS: OptionRow = row!(Number "--steps" "M" 0 to 1_000_000 or "100000",
+    "Films at most M steps.");
+
+pub const FILM_LIMIT: OptionRow = row!(Number "--limit" "N" 0 to 1_000_000 or "",
+    "Stops the run after N steps; --from and --steps film a part of a longer run.");
+
+pub const SCRIPT: OptionRow = row!(Text "--script" "S" or "",
+    "Takes the chapters of a lesson from the file S: 120 TEXT begins at step 120, and line 12 TEXT when line 12 comes next.");
+
+// Of `fmt`.
+
+pub const CHECK: OptionRow = row!(Flag "--check",
+    "Prints only the names of files that are not in columns; the exit status is 6 if there is one.");
+
+pub const WRITE: OptionRow = row!(Flag "-w",
+    "Rewrites each file that is not in columns.");
+
+// Of `import`.
+
+pub const DIALECT: OptionRow =
+    row!(OneOf "--from" "WHAT" ["auto", "sc", "lisa", "merlin", "edasm", "ca65", "listing"] or "auto",
+    "Says what F is: a source for this assembler, or a listing of the Monitor; auto guesses.");
+
+// Of `test`.
+
+pub const TEST_FORMAT: OptionRow =
+    row!(OneOf "--format" "FORMAT" ["table", "csv", "json", "junit"] or "table",
+    "Writes the results in this format.");
+
+// Of `promise`.
+
+pub const STATES: OptionRow = row!(Number "--states" "N" 1 to 100_000_000 or "",
+    "Tries all states if there are at most N, and otherwise N of them. Without it, tries all if there are at most 16777216, and otherwise 1000000.");
+
+pub const FILM: OptionRow = row!(Text "--film" "PAGE" or "",
+    "Writes the film of the first run that fails to the file PAGE.");
+
+// Of sessions.
+
+pub const MONITOR_PLAIN: OptionRow = row!(Flag "--plain",
+    "Shows no names and lines of a source beside the answers.");
+
+pub const PACE: OptionRow = row!(Text "--pace" "N" or "1022727",
+    "Runs N cycles a second, 1000 to 1000000000, or as many as possible if N is max.");
+
+pub const RECORD: OptionRow = row!(Text "--record" "T" or "",
+    "Writes each key with its step to the file T at the end, for a2lab run --replay T.");
+
+pub const COLOURS: OptionRow = row!(OneOf "--colours" "C" ["full", "256", "none"] or "",
+    "Shows lo-res in these colours; without it in those that the terminal has.");
+
+pub const TUI: OptionRow = row!(Flag "--tui",
+    "Shows panes of source, registers, stack, memory and screen, in a terminal of at least 80x24.");
+
+pub const DEBUGGER_REPLAY: OptionRow = row!(Text "--replay" "T" or "",
+    "Begins at the end of the session that a2lab play --record T recorded.");
+
+pub const DEBUGGER_PLAIN: OptionRow = row!(Flag "--plain",
+    "Shows lines of the source only in the answer to list.");
+
+pub const KEEP: OptionRow = row!(Number "--keep" "N" 20 to 100_000_000 or "540",
+    "Keeps at most N copies of the machine, 124 KB each, to step back by.");
+
+pub static RUN_OPTIONS: [OptionRow; 8] = [KEYS, LIMIT, FREE, MEM, SAVE, LAST, KEYS_AT, REPLAY];
+
+pub static CHECK_OPTIONS: [OptionRow; 1] = [CHECK_FORMAT];
+
+pub static LIST_OPTIONS: [OptionRow; 2] = [CYCLES, NAMES];
+
+pub static TRACE_OPTIONS: [OptionRow; 8] = [
+    KEYS, LIMIT, FREE, TRACE_FROM, TRACE_LAST, ONLY, STORES, CALLS,
+];
+
+pub static PROFILE_OPTIONS: [OptionRow; 5] = [PROFILE_KEYS, LIMIT, FREE, BY, PROFILE_FORMAT];
+
+pub static FILM_OPTIONS: [OptionRow; 7] = [KEYS, FILM_LIMIT, FREE, PAGE, FILM_FROM, STEPS, SCRIPT];
+
+pub static FMT_OPTIONS: [OptionRow; 2] = [CHECK, WRITE];
+
+pub static IMPORT_OPTIONS: [OptionRow; 1] = [DIALECT];
+
+pub static TEST_OPTIONS: [OptionRow; 1] = [TEST_FORMAT];
+
+pub static PROMISE_OPTIONS: [OptionRow; 2] = [STATES, FILM];
+
+pub static MON_OPTIONS: [OptionRow; 1] = [MONITOR_PLAIN];
+
+pub static PLAY_OPTIONS: [OptionRow; 3] = [PACE, RECORD, COLOURS];
+
+pub static DEBUG_OPTIONS: [OptionRow; 7] = [
+    KEYS,
+    LIMIT,
+    FREE,
+    DEBUGGER_REPLAY,
+    TUI,
+    DEBUGGER_PLAIN,
+    KEEP,
+];

@@ -1,0 +1,4 @@
+pub mod Columns
+pub mod Filmed
+pub mod Imports
+pub mod Saved

@@ -1,0 +1,138 @@
+//! The command `film`: its arguments, and the page that it writes.
+
+ghost use Rattle.std.specs.Prelude.{◌≤◌, IfOk};
+ghost use Rattle.a2lab_reports.specs.Filmed.{FilmsInto};
+
+use a2_arguments::Arguments;
+use a2_film::{FilmedRun, ScriptFault, Titles, Window, chapters_of, film_source};
+use a2_host::{Desk, Shelf};
+use a2_machine::Cause;
+use a2_run::{AssembledText, RunFault};
+use a2_stream::{Input, Output};
+use a2lab_commands::options::{FILM_FROM, FILM_LIMIT, PAGE, SCRIPT, STEPS};
+use a2lab_commands::{
+    CommandArgs, Host, Message, Refusal, Value, assembled_text, refuse_overwriting_input, report,
+    run_args, settled, stop_status, text_of,
+};
+use std::alloc::Global;
+
+// The most steps of a film without `--steps` and `--limit`.
+const USUAL_STEPS: u32 = 100_000;
+
+// The most steps of a film.
+const FILM_MAX_STEPS: u32 = 1_000_000;
+
+// The options of `film`, besides those of its run.
+#[derive(Clone, Copy, Drop)]
+struct FilmArgs<'a> {
+    // The file to which the page is written, or `None` for standard output.
+    page: Option<&'a str>,
+    // The file with the chapters of a lesson.
+    script: Option<&'a str>,
+    // The step of the run after which the film begins.
+    from: u32,
+    // The most steps of the film, if given.
+    steps: Option<u32>,
+}
+
+// Reads the options of `film`.
+fn film_args<'a>(arguments: &Arguments<'a>) -> FilmArgs<'a> {
+    FilmArgs {
+        page: arguments.text(&PAGE),
+        script: arguments.text(&SCRIPT),
+        from: arguments.number(&FILM_FROM).unwrap_or(0),
+        steps: arguments.number(&STEPS),
+    }
+}
+
+// The part of a run that a film shows; `limit` is the most steps of the run, if given.
+fn window_of(film: &FilmArgs<'_>, limit: Option<u32>) -> Window {
+    let from = film.from;
+    let left = match limit {
+        Some(limit) => limit.saturating_sub(from),
+        None => FILM_MAX_STEPS,
+    };
+    let steps = match (film.steps, limit) {
+        (Some(steps), _) => steps.min(left),
+        (None, Some(_)) => left,
+        (None, None) => USUAL_STEPS,
+    };
+    Window { from, steps }
+}
+
+/// Writes the film of a part of a source's run to the file `page`, which is replaced whole or not at all. Fails if a write
+/// fails or there is no memory.
+pub fn film_into<D: Desk>(
+    alloc: Global,
+    assembled: &AssembledText<'_>,
+    titles: Titles<'_>,
+    run: FilmedRun<'_>,
+    page: &str,
+    desk: &mut D,
+) -> Result<Cause, RunFault>
+    ensures { FilmsInto assembled.now.text titles.entry.title.now titles.entry.chapters.now run.entry.keys.now
+        run.entry.window run.entry.free page.now
+        (D.files desk.old) (D.files desk.new) result }
+{
+    let mut draft = desk.begin(page)?;
+    let answer = film_source(alloc, assembled, titles, run, &mut draft);
+    settled(page, draft, answer, desk)
+}
+
+// Writes the film of a part of a source's run to `page` or to the output.
+fn film<S, D: Desk, C, R, W: Output, E>(
+    assembled: &AssembledText<'_>,
+    titles: Titles<'_>,
+    run: FilmedRun<'_>,
+    page: Option<&str>,
+    host: &mut Host<S, D, C, R, W, E>,
+) -> Result<Cause, RunFault> {
+    match page {
+        Some(page) => film_into(host.alloc, assembled, titles, run, page, &mut host.desk),
+        None => film_source(host.alloc, assembled, titles, run, &mut host.output),
+    }
+}
+
+/// Writes the film of a run. The exit status is 1 if the source or the script has an error, and 3 if the run stopped for another cause
+/// than RETURNED or BRK.
+#[inline(never)]
+pub fn film_of<'a, S: Shelf, D: Desk, C, R: Input, W: Output, E: Output>(
+    given: &CommandArgs<'_, 'a>,
+    host: &mut Host<S, D, C, R, W, E>,
+) -> Result<u8, Refusal<'a>>
+    ensures { IfOk result (λ status. status ≤ 5) }
+{
+    let asked = film_args(given.arguments);
+    let order = run_args(given)?;
+    let window = window_of(&asked, given.arguments.number(&FILM_LIMIT));
+    let message = Message::PageOverwrites;
+    refuse_overwriting_input(message, asked.page, order.file, &host.desk)?;
+    refuse_overwriting_input(message, asked.page, asked.script, &host.desk)?;
+    let alloc = host.alloc;
+    let text = text_of(alloc, order.file, &mut host.shelf, &mut host.input)?;
+    let script = match asked.script {
+        Some(_) => text_of(alloc, asked.script, &mut host.shelf, &mut host.input)?,
+        None => Vec::new(alloc),
+    };
+    let chapters = match chapters_of(alloc, script.as_slice()) {
+        Ok(chapters) => chapters,
+        Err(ScriptFault::Line(line)) => {
+            let name = asked.script.unwrap_or("-");
+            let values = [Value::Text(name), Value::Number(line as u64)];
+            report(Message::ScriptLine, &values, &mut host.complaints);
+            return Ok(1);
+        }
+        Err(ScriptFault::Memory) => return Err(Refusal::Fault(RunFault::Memory)),
+    };
+    let assembled = assembled_text(alloc, order.file, text.as_slice(), &mut host.complaints)?;
+    let titles = Titles {
+        title: order.file.unwrap_or("a2").as_bytes(),
+        chapters: chapters.as_slice(),
+    };
+    let run = FilmedRun {
+        keys: &order.keys,
+        window,
+        free: order.free,
+    };
+    Ok(stop_status(film(&assembled, titles, run, asked.page, host)?))
+}

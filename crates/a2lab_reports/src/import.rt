@@ -1,0 +1,225 @@
+//! The command `import`: its arguments, and what is reported of the text that it converts.
+
+ghost use Rattle.std.specs.Prelude.{◌≡◌, ◌≤◌, IfOk};
+ghost use Rattle.a2lab_reports.specs.Imports.{ShowsRows};
+
+use a2_hex::HexFault;
+use a2_host::Shelf;
+use a2_import::{
+    Dialect, ImportFault, ListingFault, NoteKind, Old, guess, import_listing, import_source,
+};
+use a2_run::RunFault;
+use a2_stream::{Input, Output, WriteFault, put, put_all};
+use a2_syntax::Fault;
+use a2_text::{cut, decimal};
+use a2lab_commands::options::DIALECT;
+use a2lab_commands::{CommandArgs, Host, Refusal, is_input, loaded_text, long_text};
+use std::alloc::Global;
+
+// Returns the kind of text that a value of `--from` names, or `None` if it is to be guessed.
+fn from_named(name: &str) -> Option<Old> {
+    match name {
+        "listing" => Some(Old::Listing),
+        "sc" => Some(Old::Source(Dialect::Sc)),
+        "lisa" => Some(Old::Source(Dialect::Lisa)),
+        "merlin" => Some(Old::Source(Dialect::Merlin)),
+        "edasm" => Some(Old::Source(Dialect::Edasm)),
+        "ca65" => Some(Old::Source(Dialect::Ca65)),
+        _ => None,
+    }
+}
+
+// Reports an error or a note about a line of the text `name`, or about all of it if `line` is 0, and shows a part of it.
+fn report_of_line<E: Output>(
+    name: &str,
+    line: usize,
+    kind: &[u8],
+    what: &[u8],
+    shown: &[u8],
+    complaints: &mut E,
+) {
+    let number = decimal(line as u64);
+    // If this fails, there is no place left to report it.
+    let _ = put_all(&[name.as_bytes(), b":"], complaints);
+    if line > 0 {
+        let _ = put_all(&[number.as_slice(), b":"], complaints);
+    }
+    let _ = put_all(&[b" ", kind, b": ", what, shown, b"\n"], complaints);
+}
+
+// Returns the sentence of a note.
+fn note_text(kind: NoteKind) -> &'static [u8] {
+    match kind {
+        NoteKind::Differs =>
+            b"here this is a byte of the sum; there it was the sum with the byte: ",
+        NoteKind::Nothing => b"has no meaning here, so it became a comment: ",
+        NoteKind::Unknown => b"cannot be converted, so it became a comment: ",
+    }
+}
+
+// Reports a note about a line of the text `name`, which has these lines.
+fn report_note<E: Output>(
+    name: &str,
+    line: usize,
+    note: &[u8],
+    lines: &[&[u8]],
+    complaints: &mut E,
+) {
+    let shown: &[u8] = match line.checked_sub(1) {
+        Some(index) if index < lines.len() => lines[index].trim_ascii(),
+        _ => b"",
+    };
+    report_of_line(name, line, b"note", note, shown, complaints)
+}
+
+// Returns the line of a listing that cannot be converted, or 0 for all of it, and why.
+fn listing_fault_of(fault: ListingFault) -> (usize, &'static [u8]) {
+    match fault {
+        ListingFault::Row(HexFault::Digit(line)) => (
+            line,
+            b"not a line of a listing, such as  0300-   A9 C1      LDA   #$C1",
+        ),
+        ListingFault::Row(HexFault::NoAddress(line)) => (line, b"the first bytes have no address"),
+        ListingFault::Row(HexFault::Outside(line)) => (line, b"a byte is at or above $C000"),
+        ListingFault::Refused(line, Fault::Overlap(_)) => (
+            line,
+            b"an earlier line has a byte at this address",
+        ),
+        ListingFault::Refused(_, Fault::NoCode) => (
+            0,
+            b"no line has exactly the bytes of an instruction",
+        ),
+        ListingFault::Refused(line, _) => (
+            line,
+            b"the source would be too large; split the listing",
+        ),
+        ListingFault::Row(HexFault::Memory) | ListingFault::Unlike | ListingFault::Memory => (
+            0,
+            b"no source was found that has these bytes",
+        ),
+    }
+}
+
+/// Why the source of a listing is not written.
+#[derive(Clone, Copy)]
+pub enum RowsFault {
+    /// The listing cannot be converted.
+    Listing(ListingFault),
+    /// A write failed.
+    Write,
+}
+
+impl From<ListingFault> for RowsFault {
+    ghost use Rattle.a2lab_reports.specs.declared.import.RowsFault.TheVariants.{Listing};
+
+    ghost from_gives = { λ given fault. fault ≡ Listing given };
+
+    fn from(fault: ListingFault) -> RowsFault {
+        RowsFault::Listing(fault)
+    }
+}
+
+impl From<WriteFault> for RowsFault {
+    ghost use Rattle.a2lab_reports.specs.declared.import.RowsFault.TheVariants.{Write};
+
+    ghost from_gives = { λ _ fault. fault ≡ Write };
+
+    fn from(_fault: WriteFault) -> RowsFault {
+        RowsFault::Write
+    }
+}
+
+/// Writes a source that has the bytes of a listing. Fails without writing if there is none, and if a write fails.
+pub fn show_rows<W: Output>(alloc: Global, text: &[u8], output: &mut W) -> Result<(), RowsFault>
+    ensures { ShowsRows text.now (W.taker output.old) (W.taker output.new) result }
+{
+    let source = import_listing(alloc, text)?;
+    put(source.as_slice(), output)?;
+    Ok(())
+}
+
+// Writes the source of a listing, or reports why there is none, and returns the exit status.
+fn import_rows<'a, W: Output, E: Output>(
+    alloc: Global,
+    name: &str,
+    text: &[u8],
+    output: &mut W,
+    complaints: &mut E,
+) -> Result<u8, Refusal<'a>>
+    ensures { IfOk result (λ status. status ≤ 1) }
+{
+    match show_rows(alloc, text, output) {
+        Ok(()) => Ok(0),
+        Err(RowsFault::Write) => Err(Refusal::Fault(RunFault::Write)),
+        Err(RowsFault::Listing(ListingFault::Memory)) => Err(Refusal::Fault(RunFault::Memory)),
+        Err(RowsFault::Listing(fault)) => {
+            let (line, what) = listing_fault_of(fault);
+            report_of_line(name, line, b"error", what, b"", complaints);
+            Ok(1)
+        }
+    }
+}
+
+// Writes the source of a text for another assembler, with a note for each line that means something else now or cannot be converted.
+// Returns the exit status.
+fn import_lines<'a, W: Output, E: Output>(
+    alloc: Global,
+    name: &str,
+    dialect: Dialect,
+    text: &[u8],
+    output: &mut W,
+    complaints: &mut E,
+) -> Result<u8, Refusal<'a>>
+    ensures { IfOk result (λ status. status ≤ 1) }
+{
+    let made = match import_source(alloc, dialect, text) {
+        Ok(made) => made,
+        Err(ImportFault::Memory) => return Err(Refusal::Fault(RunFault::Memory)),
+        Err(ImportFault::Refused(_)) => {
+            let what = b"the source or one of its lines would be too long; split the text";
+            report_of_line(name, 0, b"error", what, b"", complaints);
+            return Ok(1);
+        }
+    };
+    put(made.text.as_slice(), output)?;
+    let lines = cut(alloc, text)?;
+    for note in &made.notes {
+        let text = note_text(note.kind);
+        report_note(name, note.line, text, lines.as_slice(), complaints);
+    }
+    Ok(0)
+}
+
+/// Converts the file that the arguments name, or standard input. `--from` may be before the file or after it. Reports each line that
+/// means something else now or cannot be converted, or why nothing can be, and returns the exit status.
+#[inline(never)]
+pub fn import_of<'a, S: Shelf, D, C, R: Input, W: Output, E: Output>(
+    given: &CommandArgs<'_, 'a>,
+    host: &mut Host<S, D, C, R, W, E>,
+) -> Result<u8, Refusal<'a>>
+    ensures { IfOk result (λ status. status ≤ 1) }
+{
+    let old = from_named(given.arguments.text(&DIALECT).unwrap_or("auto"));
+    let file = given.arguments.file();
+    let text = match file {
+        Some(name) if !is_input(name) => loaded_text(host.alloc, name, &mut host.shelf)?,
+        _ => long_text(host.alloc, &mut host.input)?,
+    };
+    let (name, text) = (file.unwrap_or("-"), text.as_slice());
+    let old = match old {
+        Some(old) => old,
+        None => guess(host.alloc, text)?,
+    };
+    let alloc = host.alloc;
+    match old {
+        Old::Listing => import_rows(alloc, name, text, &mut host.output, &mut host.complaints),
+        Old::Source(dialect) => import_lines(
+            alloc,
+            name,
+            dialect,
+            text,
+            &mut host.output,
+            &mut host.complaints,
+        ),
+    }
+}

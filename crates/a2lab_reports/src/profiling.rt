@@ -1,0 +1,148 @@
+//! The command `profile`.
+
+ghost use Rattle.std.specs.Prelude.{◌≤◌, IfOk};
+
+use a2_arguments::Arguments;
+use a2_bus::Keys;
+use a2_host::Shelf;
+use a2_machine::{Cause, write_cause};
+use a2_profile::{Format, Runs, Style, first_stop, profile_source, profile_source_routines};
+use a2_run::{AssembledText, RunFault};
+use a2_stream::{Input, Output, put_all};
+use a2_text::decimal;
+use a2lab_commands::options::{BY, PROFILE_FORMAT, PROFILE_KEYS};
+use a2lab_commands::{
+    CommandArgs, FileRunArgs, Host, Refusal, assembled_text, keys_in, run_args, stop_status,
+    text_of,
+};
+use std::alloc::Global;
+
+// The arguments of `profile`, besides those of its runs.
+#[derive(Drop)]
+struct ProfileArgs<'a> {
+    // Whether steps are counted by routine, and not by line.
+    by_routine: bool,
+    format: Format,
+    // The keys of each run as they were typed. Without `--keys` there is one run, without keys.
+    spellings: Vec<&'a str>,
+    // The keys that wait at the start of each run.
+    runs: Vec<Keys>,
+}
+
+// Returns the format that the options name.
+fn format_in(arguments: &Arguments<'_>) -> Format {
+    match arguments.text(&PROFILE_FORMAT) {
+        Some("json") => Format::Json,
+        Some("callgrind") => Format::Callgrind,
+        _ => Format::Text,
+    }
+}
+
+// Adds a run with the keys that `spelling` describes.
+fn add_run<'a>(spelling: &'a str, asked: &mut ProfileArgs<'a>) -> Result<(), Refusal<'a>> {
+    let keys = keys_in("profile", spelling)?;
+    if asked.runs.push(keys).is_err() || asked.spellings.push(spelling).is_err() {
+        return Err(Refusal::Fault(RunFault::Memory));
+    }
+    Ok(())
+}
+
+// Reads the options.
+fn profile_args<'a>(
+    alloc: Global,
+    arguments: &Arguments<'a>,
+) -> Result<ProfileArgs<'a>, Refusal<'a>> {
+    let mut asked = ProfileArgs {
+        by_routine: matches!(arguments.text(&BY), Some("routine")),
+        format: format_in(arguments),
+        spellings: Vec::new(alloc),
+        runs: Vec::new(alloc),
+    };
+    for option in &arguments.options {
+        if option.name == PROFILE_KEYS.name {
+            add_run(option.value, &mut asked)?;
+        }
+    }
+    if asked.runs.is_empty() {
+        add_run("", &mut asked)?;
+    }
+    Ok(asked)
+}
+
+// Reports the cause of the stop of a run, with its number and its keys.
+fn report_end<E: Output>(number: usize, spelling: &str, cause: Cause, complaints: &mut E) {
+    // If this fails, there is no place left to report it.
+    let _ = put_all(
+        &[
+            b"a2lab: profile: run ",
+            decimal(number as u64).as_slice(),
+            b", --keys ",
+            spelling.as_bytes(),
+            b": ",
+        ],
+        complaints,
+    );
+    let _ = write_cause(cause, complaints);
+}
+
+// Reports each of several runs that stopped for another cause than RETURNED.
+fn report_ends<E: Output>(causes: &[Cause], spellings: &[&str], complaints: &mut E) {
+    if causes.len() < 2 {
+        return;
+    }
+    let mut number = 1usize;
+    for (cause, spelling) in causes.iter().zip(spellings) {
+        if *cause != Cause::Returned {
+            report_end(number, *spelling, *cause, complaints);
+        }
+        number = number.saturating_add(1);
+    }
+}
+
+// Profiles the runs of a source, and returns the cause of each stop.
+fn profile<W: Output>(
+    alloc: Global,
+    assembled: &AssembledText<'_>,
+    order: &FileRunArgs,
+    asked: &ProfileArgs<'_>,
+    output: &mut W,
+) -> Result<Vec<Cause>, RunFault> {
+    let runs = Runs {
+        keys: asked.runs.as_slice(),
+        limit: order.limit,
+        free: order.free,
+    };
+    let style = Style {
+        name: order.file.unwrap_or("-").as_bytes(),
+        format: asked.format,
+    };
+    if asked.by_routine {
+        profile_source_routines(alloc, assembled, runs, style, output)
+    } else {
+        profile_source(alloc, assembled, runs, style, output)
+    }
+}
+
+/// Profiles one run for each `--keys`, or one run. Of several, it reports each that stopped for another cause than RETURNED. The exit
+/// status is that of the first such run.
+#[inline(never)]
+pub fn profile_of<'a, S: Shelf, D, C, R: Input, W: Output, E: Output>(
+    given: &CommandArgs<'_, 'a>,
+    host: &mut Host<S, D, C, R, W, E>,
+) -> Result<u8, Refusal<'a>>
+    ensures { IfOk result (λ status. status ≤ 5) }
+{
+    let asked = profile_args(host.alloc, given.arguments)?;
+    let order = run_args(given)?;
+    let text = text_of(host.alloc, order.file, &mut host.shelf, &mut host.input)?;
+    let assembled = assembled_text(
+        host.alloc,
+        order.file,
+        text.as_slice(),
+        &mut host.complaints,
+    )?;
+    let causes = profile(host.alloc, &assembled, &order, &asked, &mut host.output)?;
+    let (causes, spellings) = (causes.as_slice(), asked.spellings.as_slice());
+    report_ends(causes, spellings, &mut host.complaints);
+    Ok(stop_status(first_stop(causes)))
+}

@@ -1,0 +1,80 @@
+//! The command `promise`: its arguments and its exit status.
+
+ghost use Rattle.std.specs.Prelude.{◌≤◌, IfOk};
+
+use crate::failing::film_first;
+use a2_arguments::Arguments;
+use a2_host::{Desk, Shelf};
+use a2_promise_try::{Judgement, Trials, judge_all};
+use a2_stream::{Input, Output};
+use a2lab_commands::options::{FILM, STATES};
+use a2lab_commands::{
+    CommandArgs, Host, Message, Refusal, Value, assembled_text, refuse_overwriting_input, report,
+    text_of,
+};
+
+// How many states are tried without `--states`.
+const TRIALS: Trials = Trials {
+    all: 1 << 24,
+    some: 1_000_000,
+};
+
+// The options: how many states are tried, and the file to which a film is written.
+#[derive(Clone, Copy)]
+struct PromiseArgs<'a> {
+    trials: Trials,
+    page: Option<&'a str>,
+}
+
+// Reads the options.
+fn promise_args<'a>(arguments: &Arguments<'a>) -> PromiseArgs<'a> {
+    let trials = match arguments.number(&STATES) {
+        Some(states) => Trials {
+            all: u64::from(states),
+            some: u64::from(states),
+        },
+        None => TRIALS,
+    };
+    PromiseArgs {
+        trials,
+        page: arguments.text(&FILM),
+    }
+}
+
+// Returns the exit status, and reports a source without promises.
+fn status_of<E: Output>(file: &str, judgement: &Judgement, complaints: &mut E) -> u8
+    ensures { result ≤ 6 }
+{
+    if judgement.promises == 0 {
+        report(Message::NoPromise, &[Value::Text(file)], complaints);
+        1
+    } else if judgement.is_any_refused {
+        1
+    } else if judgement.is_any_failed {
+        6
+    } else {
+        0
+    }
+}
+
+/// Tries the promises of a source, and writes a film of the first run that fails if `--film` asks for it. The exit status is 6 if a
+/// promise does not hold, and 1 if the source or a promise has an error or there is no promise.
+#[inline(never)]
+pub fn promise_of<'a, S: Shelf, D: Desk, C, R: Input, W: Output, E: Output>(
+    given: &CommandArgs<'_, 'a>,
+    host: &mut Host<S, D, C, R, W, E>,
+) -> Result<u8, Refusal<'a>>
+    ensures { IfOk result (λ status. status ≤ 6) }
+{
+    let wish = promise_args(given.arguments);
+    let file = given.arguments.file();
+    refuse_overwriting_input(Message::FilmOverwrites, wish.page, file, &host.desk)?;
+    let alloc = host.alloc;
+    let text = text_of(alloc, file, &mut host.shelf, &mut host.input)?;
+    let assembled = assembled_text(alloc, file, text.as_slice(), &mut host.complaints)?;
+    let judgement = judge_all(alloc, &assembled, wish.trials, &mut host.output)?;
+    let name = file.unwrap_or("-");
+    let (title, first) = (name.as_bytes(), judgement.first.as_ref());
+    film_first(&assembled, title, first, wish.page, host)?;
+    Ok(status_of(name, &judgement, &mut host.complaints))
+}

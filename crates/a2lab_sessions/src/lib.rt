@@ -1,0 +1,18 @@
+//! The commands of `a2lab` that hold a session, `play`, `mon` and `debug`, and replays of recorded sessions.
+//!
+//! How it is called is shown in CALLING.md.
+#![tactic(auto)]
+
+// No command is inlined, so that the stack holds the values of one command, not of all of them.
+
+mod debugging;
+mod lines;
+mod play;
+mod replay;
+mod terminal;
+mod turning;
+
+pub use debugging::debug_of;
+pub use play::play_of;
+pub use replay::replay_of;
+pub use terminal::mon_of;
