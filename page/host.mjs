@@ -369,12 +369,20 @@ export class Session {
 }
 
 /**
+ * Returns the bytes that inline.mjs has packed.
+ * @param {string} packed Gzipped, in base64.
+ * @returns {Promise<ArrayBuffer>}
+ */
+export async function unpackBytes(packed) {
+  const bytes = Uint8Array.from(atob(packed), it => it.charCodeAt(0));
+  return new Response(new Blob([bytes]).stream().pipeThrough(new DecompressionStream('gzip'))).arrayBuffer();
+}
+
+/**
  * Compiles a module that inline.mjs has packed.
- * @param {string} packed The module, gzipped, in base64.
+ * @param {string} packed
  * @returns {Promise<WebAssembly.Module>}
  */
 export async function unpack(packed) {
-  const bytes = Uint8Array.from(atob(packed), it => it.charCodeAt(0));
-  const stream = new Blob([bytes]).stream().pipeThrough(new DecompressionStream('gzip'));
-  return WebAssembly.compile(await new Response(stream).arrayBuffer());
+  return WebAssembly.compile(await unpackBytes(packed));
 }

@@ -37,10 +37,10 @@ export function expressionOf(value) {
 }
 
 /**
- * Returns a module of page/build as `unpack` of host.mjs expects it: gzipped, in base64.
- * @param {string} file
+ * Returns bytes as `unpackBytes` of host.mjs expects them: gzipped, in base64.
+ * @param {Uint8Array | string} bytes
  * @returns {string}
  */
-export function packed(file) {
-  return gzipSync(fs.readFileSync(file), {level: 9}).toString('base64');
+export function packed(bytes) {
+  return gzipSync(bytes, {level: 9}).toString('base64');
 }

@@ -25,6 +25,12 @@ function examples() {
   return fs.readdirSync(folder).filter(it => it.endsWith('.s')).sort().map(it => exampleOf(folder + it));
 }
 
+// The manual's pages: their texts by their names.
+function manual() {
+  const folder = at('../docs/manual/'), names = fs.readdirSync(folder).filter(it => it.endsWith('.md')).sort();
+  return Object.fromEntries(names.map(it => [it.slice(0, -'.md'.length), fs.readFileSync(folder + it, 'utf8')]));
+}
+
 // A block of data, which no browser runs.
 function dataBlock(id, data, type = 'application/json') {
   return `<script type="${type}" id="data-${id}">${data}</script>\n`;
@@ -34,8 +40,8 @@ function data(modules, version) {
   const there = PROGRAMS.filter(it => fs.existsSync(path.join(modules, `${it}.wasm`)));
   if (!there.includes('a2lab')) throw new Error(`there is no a2lab.wasm in ${modules}; page/build makes it`);
   return [dataBlock('examples', expressionOf(examples())), dataBlock('font', expressionOf(shapesOf(at('app/font.txt')))),
-    dataBlock('worker', expressionOf(inlined(at('worker.mjs')))), dataBlock('version', version.replaceAll('<', ''), 'text/plain'),
-    ...there.map(it => dataBlock(`module-${it}`, packed(path.join(modules, `${it}.wasm`)), 'text/plain'))].join('');
+    dataBlock('worker', expressionOf(inlined(at('worker.mjs')))), dataBlock('manual', packed(JSON.stringify(manual())), 'text/plain'),
+    dataBlock('version', version.replaceAll('<', ''), 'text/plain'), ...there.map(it => dataBlock(`module-${it}`, packed(fs.readFileSync(path.join(modules, `${it}.wasm`))), 'text/plain'))].join('');
 }
 
 // A script as it can be in HTML.

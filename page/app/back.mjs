@@ -6,7 +6,9 @@ import {MemoryTable} from './memory.mjs';
 import {notify} from './notices.mjs';
 import {Cancelled} from './programs.mjs';
 import {showRegisters} from './registers.mjs';
+import {CLOCK} from './samples.mjs';
 import {Screen, nameOf} from './screen.mjs';
+import {Watch} from './watch.mjs';
 
 export class Back {
   #run = null;
@@ -22,6 +24,7 @@ export class Back {
     this.screen = new Screen(byId('screen'), byId('screen-words'), colours);
     this.screen.clear();
     this.memory = new MemoryTable(address => this.choose(address), () => { if (this.#run) this.#show(); });
+    this.watch = new Watch(address => this.choose(address));
     this.#listen();
     editor.breaksChanged = () => { byId('to-breaks').hidden = editor.breaks.size === 0; };
   }
@@ -36,6 +39,13 @@ export class Back {
     this.#step = run.steps;
     this.#wanted = null;
     this.#show();
+    // (The film of the steps before the end is there when one goes back.)
+    this.#then(() => run.reach(run.steps - 1));
+  }
+
+  /** The run that is shown, or null. */
+  get run() {
+    return this.#run;
   }
 
   /** There is no run to show. */
@@ -103,13 +113,21 @@ export class Back {
     await this.#scan(direction, (film, at) => this.editor.breaks.has(film.LINE[film.PC[at]]));
   }
 
-  // Makes one step, or a whole call of a subroutine.
-  async #over() {
-    await this.#run.reach(this.#step);
+  // Makes one step in a direction, or a whole call of a subroutine. (The call may be longer than the film.)
+  async #over(direction) {
+    await this.#run.reach(Math.max(0, this.#step + Math.min(direction, 0)));
     const {film, steps} = this.#run, at = this.#step - film.first, stack = film.REG.s[at];
     film.seek(at);
-    const to = film.over(1), isCut = to > at + 1 && to >= film.count && film.first + film.count < steps;
-    await (isCut ? this.#scan(1, (other, index) => other.REG.s[index] === stack) : this.#goTo(film.first + to));
+    const to = film.over(direction), isLong = Math.abs(to - at) > 1;
+    const isCut = isLong && (direction > 0 ? to >= film.count && film.first + film.count < steps : to <= 0 && film.first > 0);
+    await (isCut ? this.#scan(direction, (other, index) => other.REG.s[index] === stack) : this.#goTo(film.first + to));
+  }
+
+  // Goes to the first step that is a second of the machine away.
+  async #second(direction) {
+    await this.#run.reach(this.#step);
+    const {film} = this.#run, cycles = film.CY[this.#step - film.first] + direction * CLOCK;
+    await this.#scan(direction, (other, at) => direction * (other.CY[at] - cycles) >= 0);
   }
 
   // Goes to the latest step before this one that changed something.
@@ -130,7 +148,8 @@ export class Back {
     const does = {
       start: () => this.#goTo(0), end: () => this.#goTo(this.#run.steps), 'step-back': by(-1), 'step-on': by(1),
       'line-back': () => this.#toLine(-1), 'line-on': () => this.#toLine(1),
-      'break-back': () => this.#toBreak(-1), 'break-on': () => this.#toBreak(1), 'over-on': () => this.#over(),
+      'break-back': () => this.#toBreak(-1), 'break-on': () => this.#toBreak(1),
+      'over-back': () => this.#over(-1), 'over-on': () => this.#over(1), 'second-back': () => this.#second(-1), 'second-on': () => this.#second(1),
     };
     for (const [id, call] of Object.entries(does)) byId(id).onclick = () => this.#then(call);
     byId('at').oninput = event => this.go(Number(event.target.value));
@@ -175,6 +194,7 @@ export class Back {
     this.#say(film, at, now);
     showRegisters(film, at, this.#chosen);
     this.memory.show(film, changed, this.#chosen);
+    this.watch.show(film, changed);
     showChanges(film, at, this.#chosen, step => this.go(step), what => this.#then(() => this.#searchChange(what)));
     this.editor.showPlace(this.#isCurrent ? now : 0, this.#isCurrent ? was : 0);
     byId('back').classList.toggle('old', !this.#isCurrent);

@@ -1,13 +1,15 @@
-// Checks the text while it is typed, and lists errors and notes.
+// Checks the text while it is typed, and lists errors and warnings.
 import {byId, later, make, setText} from './dom.mjs';
 import {Cancelled, Runner, faultText} from './programs.mjs';
 
-const PAUSE = 150, MOST_SHOWN = 100;
+const PAUSE = 15, MOST_SHOWN = 100;
+// A check of a text that is no longer there is ended only if it has taken so many milliseconds: a new worker costs as much.
+const PATIENCE = 300;
 
 /**
  * What `check` reports of a line. Lines count from 1, 0 is the whole text; `from` and `width` are characters of the line.
  * @typedef {object} Problem
- * @property {'error' | 'note'} kind
+ * @property {'error' | 'warning'} kind
  * @property {number} line
  * @property {number} from
  * @property {number} width
@@ -17,6 +19,9 @@ const PAUSE = 150, MOST_SHOWN = 100;
  * @property {string} [replacement] What to write in place of the marked characters, if `check` knows it.
  */
 
+// The words in which `check` proposes another name. (Its JSON has no field for it yet.)
+const PROPOSED = /^did you mean `?([\w.]+)`?\?$/;
+
 // Columns of `check` are bytes. Returns how many characters of a line these bytes are.
 function characters(line, bytes) {
   return new TextDecoder().decode(new TextEncoder().encode(line).subarray(0, bytes)).length;
@@ -24,21 +29,23 @@ function characters(line, bytes) {
 
 /** @returns {Problem[]} The errors in the JSON that `check` writes. */
 function errorsOf(json, lines) {
-  return JSON.parse(json).map(({line, column, width, code, text, mend: fix, replacement}) => {
+  return JSON.parse(json).map(({line, column, width, code, text, fix, replacement}) => {
     const it = lines[line - 1] ?? '', from = characters(it, column - 1);
-    return {kind: 'error', line, from, width: characters(it, column - 1 + width) - from, code, text, fix, replacement};
+    return {kind: 'error', line, from, width: characters(it, column - 1 + width) - from, code, text, fix, replacement: replacement ?? PROPOSED.exec(fix)?.[1]};
   });
 }
 
-/** @returns {Problem[]} The notes that `check` writes to standard error, each as NAME:LINE: note: TEXT. */
-function notesOf(stderr, lines) {
-  const found = [...stderr.matchAll(/^[^:\n]*:(\d+): [^:\n]*: (.*)$/gm)];
-  return found.map(([, line, text]) => ({kind: 'note', line: Number(line), from: 0, width: (lines[line - 1] ?? '').length, text}));
+/** @returns {Problem[]} The warnings that `check` writes to standard error, each as NAME:LINE: warning: TEXT. */
+function warningsOf(stderr, lines) {
+  const found = [...stderr.matchAll(/^[^:\n]*:(\d+): warning: (.*)$/gm)];
+  return found.map(([, line, text]) => ({kind: 'warning', line: Number(line), from: 0, width: (lines[line - 1] ?? '').length, text}));
 }
 
 export class Checker {
   #runner = new Runner();
   #soon = later(PAUSE, () => this.#check());
+  #begun = null;
+  #isOld = false;
 
   /** @param {import('./editor.mjs').Editor} editor  @param {() => string} nameOf Returns the name of the file. */
   constructor(editor, nameOf) {
@@ -46,31 +53,44 @@ export class Checker {
     this.nameOf = nameOf;
   }
 
-  /** The text has changed: a check of the text before is cancelled. */
+  /** The text has changed: what a check of the text before finds is not shown. */
   textChanged() {
-    this.#runner.cancel();
+    this.#isOld = true;
+    if (this.#begun !== null && performance.now() - this.#begun > PATIENCE) this.#runner.cancel();
     // (A fix belongs to the text that was checked.)
     for (const it of byId('problems').querySelectorAll('.fixes')) it.disabled = true;
     this.#soon();
   }
 
+  // Checks the text, unless a check is under way, which is followed by another one.
   async #check() {
+    if (this.#begun !== null) return;
+    this.#begun = performance.now();
+    while (this.#isOld) {
+      this.#isOld = false;
+      await this.#checkOnce();
+    }
+    this.#begun = null;
+  }
+
+  async #checkOnce() {
     const name = this.nameOf(), {text, lines} = this.editor;
     try {
       const {status, fault, stdout, stderr} = await this.#runner.run(['a2lab', 'check', '--format', 'json', name], {[name]: text});
+      if (this.#isOld) return;
       if (fault) this.#show([], faultText(fault));
       else if (status > 1) this.#show([], stderr);
-      else this.#show([...errorsOf(stdout, lines), ...notesOf(stderr, lines)]);
+      else this.#show([...errorsOf(stdout, lines), ...warningsOf(stderr, lines)]);
     } catch (error) {
       if (!(error instanceof Cancelled)) this.#show([], String(error.message ?? error));
     }
   }
 
   #show(problems, failure = '') {
-    const errors = problems.filter(it => it.kind === 'error').length, notes = problems.length - errors;
+    const errors = problems.filter(it => it.kind === 'error').length, warnings = problems.length - errors;
     const count = (number, what) => number === 0 ? '' : `${number} ${what}${number === 1 ? '' : 's'}`;
     this.editor.showMarks(problems);
-    setText(byId('count'), failure || [count(errors, 'error'), count(notes, 'note')].filter(Boolean).join(', ') || 'No errors');
+    setText(byId('count'), failure || [count(errors, 'error'), count(warnings, 'warning')].filter(Boolean).join(', ') || 'No errors');
     byId('count').className = failure || errors ? 'bad' : 'good';
     const more = problems.length - MOST_SHOWN, items = problems.slice(0, MOST_SHOWN).map(it => this.#item(it));
     byId('problems').replaceChildren(...items, ...(more > 0 ? [make('li', {}, `and ${more} more`)] : []));

@@ -1,12 +1,12 @@
-// The editor: a text area, so that undo, find, selection and input methods are the browser's own. Behind it lies the same text in colours,
-// and beside it the numbers of the lines; of both only what can be seen is made.
+// The editor: a text area, so that undo, find, selection and input methods are the browser's own. Under it is the same text in colours,
+// and beside it are the numbers of the lines. Only the visible part of both is made.
 import {byId, make} from './dom.mjs';
 import {piecesOf} from './colours.mjs';
 
 const TAB = 8;
 const BREAK_TITLE = 'A click sets a breakpoint, or removes it (F9)';
 
-/** A mark of a line. @typedef {{line: number, from: number, width: number, kind: 'error' | 'note', text: string}} Mark */
+/** A mark of a line. @typedef {{line: number, from: number, width: number, kind: 'error' | 'warning', text: string}} Mark */
 
 export class Editor {
   #marks = [];
@@ -141,6 +141,15 @@ export class Editor {
     this.area.setSelectionRange(from, to);
     this.#insert(text);
     this.area.setSelectionRange(from, from + text.length);
+  }
+
+  /** The width of a column in pixels. */
+  get columnWidth() {
+    const ruler = make('span', {class: 'row'}, '0'.repeat(100));
+    this.behind.firstElementChild.append(ruler);
+    const {width} = ruler.getBoundingClientRect();
+    ruler.remove();
+    return width / 100;
   }
 
   get #height() {

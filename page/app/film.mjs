@@ -6,10 +6,11 @@ const BEGIN = '<script type="text/plain" id="film">', END = '</script>';
 /**
  * Returns the film that is in a page that a2lab wrote.
  * @param {string} page
+ * @param {number} [linesBefore] So many lines of the source are not the user's, and have no number.
  */
-export function filmIn(page) {
+export function filmIn(page, linesBefore = 0) {
   const from = page.indexOf(BEGIN) + BEGIN.length, end = page.indexOf(END, from);
-  return openFilm(page.slice(from, end));
+  return openFilm(page.slice(from, end), linesBefore);
 }
 
 /** The sixteen colours of lo-res. */

@@ -1,7 +1,7 @@
 // The programs of the user: which one is open, and where each is kept.
 import {block, byId, grouped, later, make} from './dom.mjs';
 import * as files from './files.mjs';
-import {MOST_TEXT, fragmentOf, holdsProgram, programIn} from './link.mjs';
+import {MOST_LINK, MOST_TEXT, fragmentOf, holdsProgram, programIn} from './link.mjs';
 import {ask, notify} from './notices.mjs';
 import * as store from './store.mjs';
 
@@ -24,19 +24,21 @@ export class Library {
   /**
    * @param {import('./editor.mjs').Editor} editor
    * @param {() => void} opened Is called after another program has been opened.
+   * @param {(name: string, program: object) => void} arrived Is called after a program has been opened from a link.
    */
-  constructor(editor, opened) {
-    Object.assign(this, {editor, opened});
+  constructor(editor, opened, arrived) {
+    Object.assign(this, {editor, opened, arrived});
     const choices = EXAMPLES.map(({name, title}) => make('option', {value: name}, `${name}: ${title}`));
     byId('examples').append(make('option', {value: ''}, 'Examples…'), ...choices);
-    byId('examples').onchange = event => { this.#openExample(event.target.value); event.target.value = ''; };
+    byId('examples').onchange = event => { this.openExample(event.target.value); event.target.value = ''; };
     byId('programs').onchange = event => this.open(event.target.value);
     byId('new').onclick = () => this.#new();
     byId('rename').onclick = () => this.#rename();
     byId('delete').onclick = () => this.#delete();
     byId('save').onclick = () => this.save();
     byId('link').onclick = () => this.#link();
-    for (const id of ['keys', 'free', 'want']) byId(id).addEventListener('input', () => this.changed());
+    byId('link-session').onclick = () => this.#link({withSession: true});
+    for (const id of ['keys', 'free', 'want', 'session']) byId(id).addEventListener('input', () => this.changed());
     files.listen((name, text) => this.add({name, text}), why => notify(why, {kind: 'error'}));
     addEventListener('beforeunload', event => { if (!this.#isKept) event.preventDefault(); });
     // (A page that is put away may not come back.)
@@ -51,7 +53,7 @@ export class Library {
     const last = store.current();
     if (last !== null && store.load(last)) this.open(last);
     else if (store.names().length > 0) this.open(store.names()[0]);
-    else this.#openExample(FIRST);
+    else this.openExample(FIRST);
     await this.#takeLink();
   }
 
@@ -61,7 +63,7 @@ export class Library {
   }
 
   get #state() {
-    return {text: this.editor.text, keys: byId('keys').value, free: byId('free').checked, want: byId('want').value};
+    return {text: this.editor.text, keys: byId('keys').value, free: byId('free').checked, want: byId('want').value, session: byId('session').value};
   }
 
   /** The program has changed; it is kept soon. */
@@ -74,6 +76,9 @@ export class Library {
     if (this.#name === null) return;
     const state = this.#state, json = JSON.stringify(state);
     if (json === this.#kept) return;
+    // (Another tab may have kept its text a moment ago.)
+    const there = store.load(this.#name);
+    if (this.#kept !== null && there && there.text !== state.text && JSON.stringify(there) !== this.#kept) this.#splitOff();
     const kept = store.keep(this.#name, state);
     this.#isKept = kept === store.KEPT.YES;
     if (kept === store.KEPT.YES) {
@@ -98,9 +103,9 @@ export class Library {
   }
 
   /** Adds a program under a name that no other has, and opens it. */
-  add({name, text, keys = '', free = false, want = ''}) {
+  add({name, text, keys = '', free = false, want = '', session = ''}) {
     this.keep();
-    this.#show(this.#freeName(name || 'program'), {text, keys, free, want});
+    this.#show(this.#freeName(name || 'program'), {text, keys, free, want, session});
     this.#kept = null;
     this.keep();
   }
@@ -111,13 +116,13 @@ export class Library {
     files.save(this.file, this.editor.text);
   }
 
-  #show(name, {text, keys, free, want}) {
+  #show(name, {text, keys, free, want, session}) {
     this.#isOpening = true;
     this.#name = name;
     byId('keys').value = keys;
     byId('free').checked = free;
     byId('want').value = want;
-    byId('want-part').open = want !== '';
+    byId('session').value = session;
     this.editor.text = text;
     this.#isOpening = false;
     this.#list();
@@ -141,7 +146,8 @@ export class Library {
     }
   }
 
-  #openExample(name) {
+  /** Opens a copy of an example, if there is one with this name. */
+  openExample(name) {
     const example = EXAMPLES.find(it => it.name === name);
     if (!example) return;
     const kept = store.load(name);
@@ -172,14 +178,17 @@ export class Library {
     store.forget(name);
     this.#kept = JSON.stringify(state);
     const [other] = store.names();
-    if (other === undefined) this.#openExample(FIRST);
+    if (other === undefined) this.openExample(FIRST);
     else this.open(other);
     notify(`“${name}” was deleted.`, {buttons: [['Undo', () => this.add({name, ...state})]]});
   }
 
-  async #link() {
-    if (this.editor.text.length > MOST_TEXT) return notify('This program is too long for a link. Save it as a file.', {kind: 'error'});
-    const fragment = await fragmentOf({name: this.#name, ...this.#state}), address = location.href.split('#')[0] + fragment;
+  // Makes a link of the program, perhaps with the keys of the last live session.
+  async #link({withSession = false} = {}) {
+    const {session, ...state} = this.#state;
+    if (Math.max(state.text.length, session.length) > MOST_TEXT) return notify('This program is too long for a link. Save it as a file.', {kind: 'error'});
+    const fragment = await fragmentOf({name: this.#name, ...state, session: withSession ? session : ''}), address = location.href.split('#')[0] + fragment;
+    if (fragment.length > MOST_LINK) return notify('This program is too long for a link. Save it as a file.', {kind: 'error'});
     try {
       await navigator.clipboard.writeText(address);
       notify(`The link was copied. It has ${grouped(address.length)} characters and holds the whole program, with its keys and tests.`);
@@ -196,9 +205,10 @@ export class Library {
     history.replaceState(null, '', location.href.split('#')[0]);
     try {
       const program = await programIn(hash), kept = store.load(program.name);
-      if (kept?.text === program.text) this.open(program.name);
+      const {name: _, ...state} = program;
+      if (JSON.stringify(kept) === JSON.stringify(state)) this.open(program.name);
       else this.add(program);
-      notify(`“${this.#name}” came with the link.`);
+      this.arrived(this.#name, program);
     } catch (error) {
       notify(error.message, {kind: 'error'});
     }
@@ -214,9 +224,15 @@ export class Library {
       this.#kept = JSON.stringify(other);
       return;
     }
+    this.#splitOff();
+    this.keep();
+  }
+
+  // Continues under another name, because another tab has kept a text under this one.
+  #splitOff() {
+    const name = this.#name;
     this.#name = this.#freeName(name);
     this.#kept = null;
-    this.keep();
     notify(`“${name}” was changed in another tab. Your text is now “${this.#name}”; the other text is still “${name}”.`);
   }
 }

@@ -1,7 +1,10 @@
 // Links that hold a whole program, in the part after `#`, which no browser sends to a server. It is `p=` and base64url of raw DEFLATE of
 // JSON. A link may come from anyone: its sizes are limited, and what is in it is only ever text.
 
-const MARK = '#p=', MOST_LINK = 400000, MOST_NAME = 80, MOST_KEYS = 10000;
+const MARK = '#p=', MOST_NAME = 80, MOST_KEYS = 10000;
+
+/** The longest fragment of a link. */
+export const MOST_LINK = 400000;
 
 /** The longest text that is opened, in bytes: four times what the assembler takes, and what a browser still edits without delay. */
 export const MOST_TEXT = 1 << 18;
@@ -29,8 +32,8 @@ async function through(bytes, stream, most) {
 }
 
 /** Returns the fragment of a link. @param {{name: string} & import('./store.mjs').Kept} program */
-export async function fragmentOf({name, text, keys, free, want}) {
-  const json = new TextEncoder().encode(JSON.stringify({name, text, keys, free, want}));
+export async function fragmentOf({name, text, keys, free, want, session}) {
+  const json = new TextEncoder().encode(JSON.stringify({name, text, keys, free, want, session}));
   const packed = new Uint8Array(await through(json, new CompressionStream('deflate-raw'), Infinity));
   const base64 = btoa(Array.from(packed, it => String.fromCharCode(it)).join(''));
   return MARK + base64.replaceAll('+', '-').replaceAll('/', '_').replace(/=+$/, '');
@@ -43,9 +46,9 @@ export async function programIn(hash) {
   try {
     const packed = Uint8Array.from(atob(hash.slice(MARK.length).replaceAll('-', '+').replaceAll('_', '/')), it => it.charCodeAt(0));
     const json = new TextDecoder('utf-8', {fatal: true}).decode(await through(packed, new DecompressionStream('deflate-raw'), 2 * MOST_TEXT));
-    const {name, text, keys = '', free = false, want = ''} = JSON.parse(json), texts = [name, text, keys, want];
+    const {name, text, keys = '', free = false, want = '', session = ''} = JSON.parse(json), texts = [name, text, keys, want, session];
     if (!texts.every(it => typeof it === 'string' && it.length <= MOST_TEXT && !it.includes('\0')) || keys.length > MOST_KEYS) throw broken;
-    return {name: name.slice(0, MOST_NAME), text, keys, free: free === true, want};
+    return {name: name.slice(0, MOST_NAME), text, keys, free: free === true, want, session};
   } catch (error) {
     throw error instanceof Refused ? error : broken;
   }

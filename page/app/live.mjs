@@ -2,7 +2,7 @@
 import {canWait} from '../host.mjs';
 import {byId, later, setText} from './dom.mjs';
 import {LiveScreen} from './live-screen.mjs';
-import {faultText, filesOf, moduleOf, runOptions, startWorker} from './programs.mjs';
+import {faultText, filesOf, moduleOf, runOptions, startWorker, textsOf} from './programs.mjs';
 import {Terminal} from './terminal.mjs';
 
 // A command of `play` is this key and a letter.
@@ -11,6 +11,11 @@ const COMMAND = 0x1d;
 const WAIT = 16;
 // Without a change for so long, the last rows of a terminal are read out.
 const QUIET = 600, READ_ROWS = 4;
+// A session that does not quit in so many milliseconds is ended.
+const PATIENCE = 1000;
+
+/** The file in which `play` records its keys. */
+export const RECORD = 'session.keys';
 
 const ESCAPES = {ArrowUp: 'A', ArrowDown: 'B', ArrowRight: 'C', ArrowLeft: 'D', Home: 'H', End: 'F', Delete: '3~'};
 const SINGLE = {Enter: 13, Backspace: 127, Escape: 27, Tab: 9};
@@ -29,13 +34,16 @@ function keyBytes({key, ctrlKey, altKey, metaKey}) {
 }
 
 const KINDS = {
-  play: {rows: 24, columns: 80, wait: WAIT, words: pace => ['--pace', pace]},
+  play: {rows: 24, columns: 80, wait: WAIT, words: pace => ['--pace', pace, '--record', RECORD]},
   debug: {rows: 40, columns: 100, words: () => ['--tui'], isRun: true},
   mon: {rows: 32, columns: 80, words: () => []},
 };
 
 export class Live {
+  /** Is called with the record of the keys of a session of `play` that has ended. */
+  recorded = () => {};
   #worker = null;
+  #kind = '';
   #terminal = null;
   #decoders = {};
   #speak = later(QUIET, () => this.#readOut());
@@ -49,7 +57,7 @@ export class Live {
     byId('play').onclick = () => this.begin('play');
     byId('debug').onclick = () => this.begin('debug');
     byId('monitor').onclick = () => this.begin('mon');
-    byId('end-live').onclick = () => this.stop('Stopped.');
+    byId('end-live').onclick = () => this.#quit();
     for (const it of byId('play-keys').children) it.onclick = () => { this.#type([COMMAND, it.dataset.keys.charCodeAt(0)]); this.element.focus(); };
     for (const it of document.querySelectorAll('[data-raw]')) it.onclick = () => this.#type([Number(it.dataset.raw)]);
     this.element.onkeydown = event => this.#key(event);
@@ -61,15 +69,16 @@ export class Live {
     for (const it of ['play', 'debug', 'monitor']) byId(it).disabled = !canWait;
   }
 
-  /** Begins a session, and ends the one before. @param {'play' | 'debug' | 'mon'} kind */
-  async begin(kind) {
+  /**
+   * Begins a session, and ends the one before.
+   * @param {'play' | 'debug' | 'mon'} kind
+   * @param {string} [record] The keys of a session of `play`: the debugger begins at the end of it.
+   */
+  async begin(kind, record) {
     this.stop('');
     const {rows, columns, wait, words, isRun} = KINDS[kind], {name, text} = this.programOf();
-    const given = isRun ? runOptions(this.optionsOf()) : [], module = await moduleOf('a2lab');
-    this.element.style.setProperty('--columns', columns);
-    const screen = new LiveScreen(byId('live-screen'), byId('panel'));
-    this.#terminal = new Terminal(byId('lines'), rows, columns, () => this.#show(kind, screen));
-    this.#decoders = {1: new TextDecoder(), 2: new TextDecoder()};
+    const given = record !== undefined ? ['--replay', RECORD] : isRun ? runOptions(this.optionsOf()) : [], module = await moduleOf('a2lab');
+    this.#open(kind, rows, columns);
     // (Another session may have begun meanwhile.)
     this.#worker?.terminate();
     const worker = startWorker();
@@ -77,11 +86,28 @@ export class Live {
     worker.onmessage = ({data}) => { if (worker === this.#worker) this.#take(data); };
     worker.onerror = event => { event.preventDefault(); this.stop(`The session failed: ${event.message}`); };
     const all = ['a2lab', kind, '--raw', `${rows}x${columns}xfull`, ...words(byId('pace').value), ...given, name];
-    worker.postMessage({kind: 'begin', module, words: all, files: filesOf({[name]: text}), wait});
+    worker.postMessage({kind: 'begin', module, words: all, files: filesOf({[name]: text, [RECORD]: record}), wait});
     byId('end-live').hidden = false;
     byId('play-keys').hidden = kind !== 'play';
     setText(byId('live-says'), '');
     this.element.focus();
+  }
+
+  /** Shows a text in place of a session. @param {string} text  @param {string} says What it is. */
+  showText(text, says) {
+    this.stop(says);
+    this.#open('text', KINDS.mon.rows, KINDS.mon.columns);
+    this.#terminal.write(text.trimEnd());
+    this.#speak();
+  }
+
+  // Makes an empty terminal.
+  #open(kind, rows, columns) {
+    const screen = new LiveScreen(byId('live-screen'), byId('panel'));
+    this.#kind = kind;
+    this.element.style.setProperty('--columns', columns);
+    this.#terminal = new Terminal(byId('lines'), rows, columns, () => this.#show(kind, screen));
+    this.#decoders = {1: new TextDecoder(), 2: new TextDecoder()};
   }
 
   /** What the terminal shows. */
@@ -93,6 +119,14 @@ export class Live {
   stop(why) {
     this.#worker?.terminate();
     this.#ended(why);
+  }
+
+  // Lets `play` end by itself, since it writes the record of its keys at its end.
+  #quit() {
+    const worker = this.#worker;
+    if (this.#kind !== 'play') return this.stop('Stopped.');
+    this.#type([COMMAND, 'q'.charCodeAt(0)]);
+    setTimeout(() => { if (worker === this.#worker) this.stop('Stopped.'); }, PATIENCE);
   }
 
   #ended(why) {
@@ -110,6 +144,8 @@ export class Live {
       // (3 is the status of a program that stopped by another cause than its end.)
       const status = data.status > 0 && data.status !== 3 ? ` with status ${data.status}` : '';
       this.#ended(data.fault ? faultText(data.fault) : `The session has ended${status}.`);
+      const record = textsOf(data.files)[RECORD];
+      if (this.#kind === 'play' && record) this.recorded(record);
     }
   }
 

@@ -6,11 +6,16 @@ import {Editor} from './editor.mjs';
 import * as exports from './exports.mjs';
 import * as help from './help.mjs';
 import {Library} from './library.mjs';
+import {filmIn} from './film.mjs';
 import {Live} from './live.mjs';
+import {Manual, holdsPlace} from './manual.mjs';
 import {notify} from './notices.mjs';
 import {moduleOf} from './programs.mjs';
+import {Replay} from './replay.mjs';
 import {RunPart} from './run.mjs';
+import {Sound} from './sound.mjs';
 import {Tabs} from './tabs.mjs';
+import {Tests} from './tests.mjs';
 import {Tools} from './tools.mjs';
 import * as theme from './theme.mjs';
 
@@ -25,24 +30,76 @@ function textChanged() {
   parts.runs?.textChanged();
 }
 
-function begin() {
-  const editor = new Editor(textChanged), programOf = () => ({name: parts.library.file, text: editor.text});
-  theme.begin();
-  parts.editor = editor;
-  parts.tabs = new Tabs(document.querySelector('[role=tablist]'));
+// Runs the program where one sees it: what the page has, or what is asked for instead.
+function run(asked) {
+  parts.tabs.show('tab-run');
+  return parts.runs.run(asked);
+}
+
+function showFilm(page) {
+  parts.tabs.show('tab-run');
+  parts.runs.showFilm(filmIn(page), 'This is the run in which a promise fails.');
+}
+
+// Nothing of another program is shown.
+function opened() {
+  for (const it of [parts.runs, parts.tests]) it.forget();
+  parts.sound.stop();
+  parts.replay.show();
+}
+
+// A program has come with a link. If it is an exercise, or has the keys of a session, the page says what can be done with it.
+function arrived(name, {want, session}) {
+  if (session) parts.tabs.show('tab-live');
+  else if (want) parts.tabs.show('tab-tests');
+  const what = session ? ' It has the keys of a session: press “Replay it”.' : want ? ' It has tests: press Test.' : '';
+  notify(`“${name}” came with the link.${what}`);
+}
+
+function makeParts(editor) {
+  const programOf = () => ({name: parts.library.file, text: editor.text}), optionsOf = () => parts.runs.options;
+  parts.tabs = new Tabs(document.querySelector('[role=tablist]'), id => { if (id === 'tab-learn') parts.manual.show(); });
   parts.back = new Back(editor);
   parts.runs = new RunPart(programOf, parts.back);
-  parts.live = new Live(programOf, () => parts.runs.options);
-  parts.tools = new Tools(editor, programOf, () => parts.runs.options);
+  parts.sound = new Sound(() => parts.back.run);
+  parts.live = new Live(programOf, optionsOf);
+  parts.replay = new Replay(programOf, parts.live, () => parts.library.changed());
+  parts.tests = new Tests(programOf, run);
+  parts.tools = new Tools(editor, programOf, optionsOf, showFilm);
   parts.checker = new Checker(editor, () => parts.library.file);
-  parts.library = new Library(editor, () => parts.runs.forget());
+  parts.library = new Library(editor, opened, arrived);
+  parts.manual = new Manual((name, text) => show(() => parts.library.add({name, text})), name => show(() => parts.library.openExample(name)));
+  help.listen(editor);
+  exports.listen(programOf, optionsOf);
+}
+
+// Opens a program of the manual. (On a phone the editor is above the manual.)
+function show(open) {
+  open();
+  byId('edit').scrollIntoView({block: 'nearest'});
+}
+
+function showPlace() {
+  if (!holdsPlace(location.hash)) return;
+  parts.tabs.show('tab-learn');
+  parts.manual.show(location.hash);
+}
+
+function listen() {
+  byId('runs').addEventListener('submit', event => { event.preventDefault(); run(); });
+  addEventListener('hashchange', showPlace);
   document.addEventListener('keydown', event => {
     if (!(event.ctrlKey || event.metaKey) || event.altKey || event.target.closest('#terminal')) return;
-    if (event.key === 'Enter') { event.preventDefault(); parts.tabs.show('tab-run'); parts.runs.run(); }
+    if (event.key === 'Enter') { event.preventDefault(); run(); }
     if (event.key.toLowerCase() === 's') { event.preventDefault(); parts.library.save(); }
   });
-  help.listen(editor);
-  exports.listen(programOf, () => parts.runs.options);
+}
+
+function begin() {
+  theme.begin();
+  parts.editor = new Editor(textChanged);
+  makeParts(parts.editor);
+  listen();
   byId('version').textContent = block('version');
 }
 
@@ -52,8 +109,10 @@ async function beginAll() {
   if (missing.length > 0) notify(`This browser is too old for this page: it has no ${missing.join(', ')}.`, {kind: 'error'});
   begin();
   await parts.library.begin();
+  showPlace();
   await moduleOf('a2lab');
   await parts.runs.run();
+  performance.mark('first screen');
 }
 
 addEventListener('unhandledrejection', event => notify(`Something in the page failed: ${event.reason?.message ?? event.reason}`, {kind: 'error'}));

@@ -2,7 +2,7 @@
 import {unpack} from '../host.mjs';
 import {block} from './dom.mjs';
 
-const modules = new Map();
+const modules = new Map(), read = bytes => new TextDecoder().decode(bytes);
 
 /** Returns the compiled module of a program, such as a2lab. @returns {Promise<WebAssembly.Module>} */
 export function moduleOf(name) {
@@ -23,9 +23,14 @@ export function startWorker() {
   return new Worker(workerUrl);
 }
 
-/** Returns files as worker.mjs takes them. @param {Record<string, string>} files Texts by their names. */
+/** Returns files as worker.mjs takes them. @param {Record<string, string | undefined>} files Texts by their names; no file where there is none. */
 export function filesOf(files) {
-  return Object.entries(files).map(([name, text]) => [name, new TextEncoder().encode(text)]);
+  return Object.entries(files).filter(([, text]) => text !== undefined).map(([name, text]) => [name, new TextEncoder().encode(text)]);
+}
+
+/** Returns the texts of files by their names. @param {[string, Uint8Array][]} files As worker.mjs sends them. */
+export function textsOf(files) {
+  return Object.fromEntries(files.map(([name, bytes]) => [name, read(bytes)]));
 }
 
 /** Returns the options of a program's run that has these keys waiting, and no guard if it is free. @returns {string[]} */
@@ -35,8 +40,6 @@ export function runOptions({keys, free}) {
 
 /** What a call that was cancelled throws. */
 export class Cancelled extends Error {}
-
-const read = bytes => new TextDecoder().decode(bytes);
 
 /** Runs one program at a time. A new call cancels the one before it. */
 export class Runner {
@@ -48,14 +51,15 @@ export class Runner {
    * Runs a program until it ends.
    * @param {string[]} words The name of the program, and its arguments.
    * @param {Record<string, string>} files
-   * @returns {Promise<{status: number | null, fault: object | null, stdout: string, stderr: string}>}
+   * @returns {Promise<{status: number | null, fault: object | null, stdout: string, stderr: string, files: Record<string, string>}>}
+   *   `files` has all that there are when it ends.
    */
   async run(words, files) {
     this.cancel();
     const number = this.#number, module = await moduleOf(words[0]);
     if (number !== this.#number) throw new Cancelled();
-    const {status, fault, stdout, stderr} = await this.#ask({kind: 'run', id: number, module, words, files: filesOf(files)});
-    return {status, fault, stdout: read(stdout), stderr: read(stderr)};
+    const {status, fault, stdout, stderr, files: there} = await this.#ask({kind: 'run', id: number, module, words, files: filesOf(files)});
+    return {status, fault, stdout: read(stdout), stderr: read(stderr), files: textsOf(there)};
   }
 
   /** Ends a call that has not ended yet. */

@@ -1,7 +1,7 @@
 // The part of the page that runs a program, and shows how the run ended.
 import {byId, make} from './dom.mjs';
 import {Cancelled, Runner} from './programs.mjs';
-import {Run} from './runs.mjs';
+import {FilmedRun, Run} from './runs.mjs';
 
 export class RunPart {
   #runner = new Runner();
@@ -12,7 +12,6 @@ export class RunPart {
    */
   constructor(programOf, back) {
     Object.assign(this, {programOf, back, result: byId('result')});
-    byId('runs').onsubmit = event => { event.preventDefault(); this.run(); };
     byId('stop').onclick = () => this.#runner.cancel();
   }
 
@@ -33,9 +32,12 @@ export class RunPart {
     this.#say(make('p', {class: 'hint'}, 'Press Run, or Ctrl+Enter.'));
   }
 
-  /** Runs the program, and shows its end. */
-  async run() {
-    const run = new Run({...this.programOf(), ...this.options}, this.#runner);
+  /**
+   * Runs the program, and shows its end.
+   * @param {Partial<import('./runs.mjs').Asked>} [other] What is asked for instead of what the page has.
+   */
+  async run(other = {}) {
+    const run = new Run({...this.programOf(), ...this.options, ...other}, this.#runner);
     byId('stop').hidden = false;
     try {
       this.#tell(run, await run.begin());
@@ -45,6 +47,13 @@ export class RunPart {
     } finally {
       byId('stop').hidden = true;
     }
+  }
+
+  /** Shows a run that was filmed elsewhere. @param {object} film  @param {string} why What it shows. */
+  showFilm(film, why) {
+    this.#runner.cancel();
+    this.#say(make('p', {}, why));
+    this.back.take(new FilmedRun(film));
   }
 
   #tell(run, {status, lines, explained}) {

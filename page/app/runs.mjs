@@ -13,7 +13,19 @@ const WINDOW = 50000;
  * @property {string} keys In the spelling of --keys.
  * @property {number} limit
  * @property {boolean} free
+ * @property {number} [linesBefore] So many lines at the start of the text are not the user's.
  */
+
+/** A run of which there is one film, and no more. */
+export class FilmedRun {
+  /** @param {object} film */
+  constructor(film) {
+    this.film = film;
+    this.steps = film.first + film.count;
+  }
+
+  async reach() {}
+}
 
 export class Run {
   #runner;
@@ -51,11 +63,16 @@ export class Run {
     await this.#take(from, WINDOW);
   }
 
+  /** Makes `film` the one that begins after so many steps. @param {number} step */
+  async filmFrom(step) {
+    await this.#take(step, WINDOW);
+  }
+
   async #take(from, steps) {
     const most = Math.min(steps, this.asked.limit - from);
     const {stdout, stderr} = await this.#call('film', '--from', String(from), '--steps', String(Math.max(0, most)));
     if (!stdout) throw new Error(stderr);
-    this.#film = filmIn(stdout);
+    this.#film = filmIn(stdout, this.asked.linesBefore);
     this.steps = Math.max(this.steps, this.#film.first + this.#film.count);
   }
 

@@ -16,8 +16,8 @@ export function names() {
 }
 
 /**
- * What is kept of a program: its text, the options of its run, and its tests.
- * @typedef {{text: string, keys: string, free: boolean, want: string}} Kept
+ * What is kept of a program: its text, the options of its run, its tests, and the keys of its last live session.
+ * @typedef {{text: string, keys: string, free: boolean, want: string, session: string}} Kept
  */
 
 /** @returns {Kept | null} */
@@ -25,17 +25,17 @@ export function load(name) {
   const stored = attempt(it => it.getItem(PROGRAM + name), null);
   if (stored === null) return null;
   try {
-    const {text, keys, free, want} = JSON.parse(stored);
-    return {text: String(text ?? ''), keys: String(keys ?? ''), free: free === true, want: String(want ?? '')};
+    const {text, keys, free, want, session} = JSON.parse(stored);
+    return {text: String(text ?? ''), keys: String(keys ?? ''), free: free === true, want: String(want ?? ''), session: String(session ?? '')};
   } catch {
-    return {text: stored, keys: '', free: false, want: ''};
+    return {text: stored, keys: '', free: false, want: '', session: ''};
   }
 }
 
 /** Keeps a program. @param {Kept} kept  @returns {string} One of KEPT. */
-export function keep(name, {text, keys, free, want}) {
+export function keep(name, {text, keys, free, want, session}) {
   try {
-    localStorage.setItem(PROGRAM + name, JSON.stringify({text, keys, free, want}));
+    localStorage.setItem(PROGRAM + name, JSON.stringify({text, keys, free, want, session}));
     return KEPT.YES;
   } catch (error) {
     return error.name === 'QuotaExceededError' || error.name === 'NS_ERROR_DOM_QUOTA_REACHED' ? KEPT.FULL : KEPT.FORBIDDEN;

@@ -25,7 +25,7 @@ export async function browser() {
     }
     if (piece.length) rest.push(piece);
   });
-  // (a browser that ends is told by what waits for it)
+  // (if the browser ends, whatever waits for it reports that)
   for (const pipe of child.stdio.slice(3)) pipe.on('error', () => {});
   child.on('exit', () => { for (const [, failed] of waiting.values()) failed(new Error('Chromium has ended')); });
   const send = (method, params = {}, sessionId) => new Promise((done, failed) => {
@@ -36,7 +36,7 @@ export async function browser() {
     for (const begun = Date.now(); !events.some(test); await sleep(5)) if (Date.now() - begun > 300000) throw new Error('Chromium does not answer');
   };
 
-  // A page in a tab of its own, of this size, in light or dark colours, and on the screen or as it is printed.
+  // A page in a tab of its own, of this size, in light or dark colours, on the screen or as it is printed.
   const open = async (url, {width = 1280, height = 900, dark = false, media = 'screen'} = {}) => {
     const {targetId} = await send('Target.createTarget', {url: 'about:blank'});
     const {sessionId} = await send('Target.attachToTarget', {targetId, flatten: true});
@@ -63,7 +63,7 @@ export async function browser() {
     const click = async (x, y) => { for (const type of ['mousePressed', 'mouseReleased']) await call('Input.dispatchMouseEvent', {type, x, y, button: 'left', clickCount: 1}); };
     const picture = async (file, whole) => writeFileSync(file, Buffer.from((await call('Page.captureScreenshot', {format: 'png', captureBeyondViewport: !!whole})).data, 'base64'));
     const heap = async () => { await call('HeapProfiler.enable'); await call('HeapProfiler.collectGarbage'); return call('Runtime.getHeapUsage'); };
-    // What went wrong: errors, lines in the console, requests for anything but the page.
+    // What went wrong: errors, lines in the console, requests for anything except the page.
     const faults = () => events.filter(event => event.sessionId == sessionId).flatMap(({method, params}) =>
       method == 'Runtime.exceptionThrown' ? ['error: ' + (params.exceptionDetails.exception?.description ?? params.exceptionDetails.text)]
       : method == 'Runtime.consoleAPICalled' ? ['console: ' + JSON.stringify(params.args)]
@@ -71,7 +71,7 @@ export async function browser() {
       : method == 'Page.javascriptDialogOpening' ? ['dialog: ' + params.message]
       : method == 'Network.requestWillBeSent' && params.request.url.split('#')[0] != url.split('#')[0] ? ['request: ' + params.request.url] : []);
     const close = () => send('Target.closeTarget', {targetId});
-    return {value, key, type, click, picture, heap, faults, close, loaded};
+    return {call, value, key, type, click, picture, heap, faults, close, loaded};
   };
 
   const close = async () => {

@@ -1,6 +1,6 @@
-// The controls of a film's page, by keyboard: node controls.mjs FILM.html [PICTURES], where the film is that of
-// examples/sieve.s, and PICTURES a folder that takes a picture of each width and colour scheme. It takes no text whose
-// contrast is below what WCAG calls AA, and nothing wider than the window. The last line is 'N passed, M failed'.
+// Tests the controls of a film's page by keyboard: node controls.mjs FILM.html [PICTURES], where the film is that of
+// examples/sieve.s, and PICTURES a folder for a picture of each width and colour scheme. Text with less contrast than
+// WCAG requires for AA is a failure, and so is anything wider than the window. The last line is 'N passed, M failed'.
 import {join, resolve} from 'node:path';
 import {browser} from './chromium.mjs';
 
@@ -107,7 +107,7 @@ await is('Enter on the way back', 'at', 500);
 await page.value('go(123);$("link").focus()');
 await page.key('Enter');
 await is('Enter on the link', 'location.hash.startsWith("#step=123")&&at==123', true);
-// (the browser tells the page a moment later that its link is another, and the page goes there once more)
+// (the page learns only a moment later that its link has changed, and goes there once more)
 await new Promise(done => setTimeout(done, 100));
 await page.value('bps.clear();go(9);$("src").focus()');
 await page.key('ArrowDown');
@@ -149,7 +149,7 @@ for (const [width, height] of [[1280, 900], [390, 844]]) for (const dark of [fal
   await view.close();
 }
 
-// ---- on paper: no controls, all of the program, and dark colours are light there
+// ---- on paper: no controls, the whole program, and dark colours become light
 const paper = await chromium.open(url + '#step=401', {width: 794, height: 1123, dark: true, media: 'print'});
 told('controls on paper', await paper.value('["nav","bar","memc","whot","link"].filter(i=>getComputedStyle($(i)).display!="none")'), '');
 told('the program on paper', await paper.value('getComputedStyle($("src")).maxHeight+" "+($("src").scrollHeight-$("src").clientHeight)'), 'none 0');

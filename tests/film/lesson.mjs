@@ -1,6 +1,6 @@
-// A window of a run, and the chapters of a lesson: node lesson.mjs A2LAB SOURCE ROOM. The film of a window shows at each step that is
-// looked at what the film of the whole run shows there; its chapters are gone through by keys, buttons and list; and nothing is
-// wider than a phone. The last line is 'N passed, M failed'.
+// Tests a part of a run, and the chapters of a lesson: node lesson.mjs A2LAB SOURCE ROOM. At each step that is compared, the film of a part
+// shows what the film of the whole run shows. The test goes through its chapters by keys, buttons and list. Nothing is wider than a
+// phone. The last line is 'N passed, M failed'.
 import {spawnSync} from 'node:child_process';
 import {mkdirSync, writeFileSync} from 'node:fs';
 import {join} from 'node:path';
@@ -18,7 +18,7 @@ const script = join(room, 'lesson');
 writeFileSync(script, `${FROM + 400} Later on.\n${FROM} <b>Here</b> it begins & \\ goes on.\nline 24 A line.\n\n${LAST} Behind the end.\n${FROM + 400} And at once.\nline 1 A line that is never done.\n`);
 const whole = film('whole.html', '--limit', String(LAST)), part = film('part.html', '--from', String(FROM), '--steps', String(STEPS), '--script', script);
 
-// All that a page shows at a step of the run, by its own numbers.
+// Returns everything that a page shows at a step of the run, by its own numbers.
 const shown = `(()=>{let sum=0;for(let i=0;i<RAM;i++)sum=(sum*31+ram[i])%4294967291;
   return [$("no").textContent,$("cy").textContent,$("regs").textContent,$("flags").textContent,$("stk").textContent,$("scrt").textContent,SW[at],sum,
     at?words(at):"",nowr&&nowr.rowIndex].join("|")})()`;

@@ -1,4 +1,4 @@
-// Makes the picture of the manual anew: node picture.mjs A2LAB OUT.png. It shows the film of examples/lores.s in Chromium, in a
+// Makes the picture of the manual: node picture.mjs A2LAB OUT.png. It shows the film of examples/lores.s in Chromium, with a
 // palette of 48 colours, which keeps it small.
 import {execFileSync} from 'node:child_process';
 import {mkdtempSync, rmSync, writeFileSync} from 'node:fs';
@@ -17,7 +17,7 @@ await page.value('document.head.append(Object.assign(document.createElement("sty
 await page.value('onresize()');
 await page.picture(shot);
 
-// The colours that stand most often, and each point as the nearest of them.
+// The most frequent colours, and each point as the nearest of them.
 const {points, palette} = await page.value(`(async()=>{const image=new Image;image.src=${JSON.stringify('data:image/png;base64,')}+${JSON.stringify((await import('node:fs')).readFileSync(shot).toString('base64'))};
   await image.decode();const c=Object.assign(document.createElement("canvas"),{width:${width},height:${height}}).getContext("2d",{willReadFrequently:true});c.drawImage(image,0,0);
   const d=c.getImageData(0,0,${width},${height}).data,n=new Map;for(let i=0;i<d.length;i+=4){const k=d[i]<<16|d[i+1]<<8|d[i+2];n.set(k,(n.get(k)||0)+1)}

@@ -1,7 +1,7 @@
-// What the page of a film reads of its data, against the program: node read.mjs A2 FILM.html SOURCE [WORDS..]
-// At some steps of the film it compares registers, flags, cycles, and on a text page the screen, with what
-// `A2 run SOURCE --limit STEP WORDS..` writes. No browser is needed: the page's reader runs by itself. The last line is
-// 'N passed, M failed', one for each step that is compared.
+// Compares what the page of a film reads from its data with the program: node read.mjs A2 FILM.html SOURCE [ARGUMENTS..]
+// At some steps of the film it compares registers, flags, cycles, and on a text page the screen, with the output of
+// `A2 run SOURCE --limit STEP ARGUMENTS..`. No browser is needed: the page's reader runs by itself. The last line is
+// 'N passed, M failed', with one for each step that is compared.
 import {readFileSync} from 'node:fs';
 import {execFileSync} from 'node:child_process';
 

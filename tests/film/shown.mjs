@@ -1,9 +1,9 @@
-// What the pages of films show in a browser, against what other words say of the same runs: node shown.mjs A2 A2LAB ROOM
-// [NAME..]. The runs are those of the file `runs` and all examples; with names, these alone. At some steps of each, in no
-// order, it compares: registers, flags, steps and cycles, and the screen as it is drawn, cell by cell or block by block, with
-// `A2 run --attr --limit STEP`; all of RAM with what the instructions of `A2LAB trace` store; RAM at the end with what the
-// Monitor shows where it goes through the same run. It takes no error, no line in the console and no request. The last line is
-// 'N passed, M failed': one for each step, and one for each page.
+// Compares what the pages of films show in a browser with other commands on the same runs: node shown.mjs A2 A2LAB ROOM [NAME..].
+// The runs are those of the file `runs` and all examples; with names, only these. At some steps of each, in no order, it compares:
+// registers, flags, steps and cycles, and the screen as it is drawn, cell by cell or block by block, with `A2 run --attr --limit STEP`;
+// all of RAM with what the instructions of `A2LAB trace` store; RAM at the end with what the Monitor shows after the same run. An
+// error, a line in the console or a request is a failure. The last line is 'N passed, M failed', with one for each step, and one for each
+// page.
 import {execFileSync} from 'node:child_process';
 import {createHash} from 'node:crypto';
 import {mkdirSync, readFileSync, readdirSync, writeFileSync} from 'node:fs';
@@ -11,7 +11,7 @@ import {dirname, join} from 'node:path';
 import {fileURLToPath} from 'node:url';
 import {browser} from './chromium.mjs';
 
-// The sum of the glyphs that were looked at, all 64.
+// The sum of the glyphs that were compared, all 64.
 const GLYPHS = '295b57c51bff47ebf4866293d2f0165f98c4a3d55591650245e3e3023a5e4791';
 const COLOURS = ['0,0,0', '221,0,51', '0,0,153', '221,34,221', '0,119,34', '85,85,85', '34,34,255', '102,170,255',
   '136,85,0', '255,102,0', '170,170,170', '255,153,136', '17,221,0', '255,255,0', '68,255,153', '255,255,255'];
@@ -37,9 +37,9 @@ const written = readFileSync(join(here, 'runs'), 'latin1').split('\n=== ').slice
   return {name, words, text: lines.join('\n').replace(/\\x(..)/g, (_, digits) => String.fromCharCode(parseInt(digits, 16))) + '\n'};
 });
 
-// ---- what other words say
+// ---- what other commands say
 
-// The bytes that an instruction of the trace stores, in order: of the registers before it, of those behind, and of RAM.
+// The bytes that an instruction of the trace stores, in order: from the registers before and after it, and from RAM.
 const MODES = {1: 'ix', 5: 'z', 6: 'z', 4: 'z', 13: 'a', 14: 'a', 12: 'a', 17: 'iy', 21: 'zx', 22: 'zx', 20: 'zx', 25: 'ay', 29: 'ax', 30: 'ax'};
 function stores(ram, pc, was, is) {
   const op = ram[pc], low = ram[pc + 1], word = low | ram[pc + 2] << 8, push = (...bytes) => bytes.map((byte, i) => [256 + (was.S - i & 255), byte]);
@@ -60,7 +60,7 @@ function stores(ram, pc, was, is) {
 
 const registers = line => Object.fromEntries([...line.matchAll(/\b([AXYPS]|PC)=([0-9A-F]+)/g)].map(part => [part[1], parseInt(part[2], 16)]));
 
-// A film's data, as they stand in the page: RAM at the start, and the rows.
+// A film's data, as they are in the page: RAM at the start, and the rows.
 function data_of(page) {
   const from = page.indexOf('id="film">') + 10, lines = page.slice(from, page.indexOf('</script>', from)).split('\n');
   const first = lines.findIndex(line => line.startsWith('R ')), ram = new Uint8Array(65536);
@@ -69,7 +69,7 @@ function data_of(page) {
   return {ram, put, rows: lines.slice(first + 1, -2), start: lines[first].split(' ')};
 }
 
-// RAM at each of these steps. A service's stores are in no trace: those are the row's.
+// RAM at each of these steps. A trace does not have the stores of a service: those are taken from the row.
 function rams(page, trace, steps) {
   const {ram, put, rows, start} = data_of(page), at = new Map;
   let was = {A: parseInt(start[2], 16), X: parseInt(start[3], 16), Y: parseInt(start[4], 16), S: parseInt(start[5], 16), P: parseInt(start[6], 16)};
@@ -85,7 +85,7 @@ function rams(page, trace, steps) {
   return at;
 }
 
-// RAM where the Monitor has gone through the program from its start on.
+// RAM after the Monitor has run the program from its start.
 function monitor_ram(name, source, start) {
   const script = join(room, name + '.mon'), object = said(a2, 'asm', source);
   writeFileSync(script, object + start + 'G\n0.BFFF\n', 'latin1');
@@ -109,7 +109,7 @@ const seen = step => `(()=>{go(${step});flash=0;draw();
     flags:$("flags").textContent,screen:$("scrt").textContent.split("\\n"),mode:SW[at],say:$("say").textContent,ram:btoa(bytes),cells,ground,blocks,
     memory:[...$("mem").querySelectorAll("td")].map(d=>d.textContent).join(""),page,font:FONT}})()`;
 
-// What differs between what the page shows and what the run's answer and RAM say.
+// What differs between what the page shows and what the run's output and RAM say.
 function differences(got, answer, ram) {
   const lines = answer.split('\n'), end = lines.findIndex(line => /^A=.. X=.. /.test(line)), wrong = [];
   const flags = parseInt(lines[end].match(/P=(..)/)[1], 16);

@@ -1,5 +1,5 @@
-// How fast Chromium shows films: node speed.mjs FILM.html.. For each the milliseconds of its loading; of 200 steps on and back, and of
-// 60 jumps anywhere, each with all that is drawn, the median, and what nine tenths stay below.
+// Measures how fast Chromium shows films: node speed.mjs FILM.html.. For each it prints the milliseconds of loading; of 200 steps forwards and
+// back, and of 60 jumps anywhere, each with all drawing: the median, and the time that nine tenths stay below.
 import {resolve} from 'node:path';
 import {browser} from './chromium.mjs';
 

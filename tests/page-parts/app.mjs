@@ -3,6 +3,8 @@ import {spawnSync} from 'node:child_process';
 import fs from 'node:fs';
 import {fileURLToPath} from 'node:url';
 import {equal, test} from './count.mjs';
+import {inPage} from './in-page-of-app.mjs';
+import {exercises, learning, replays, sounds} from './app-learning.mjs';
 
 const example = name => fs.readFileSync(fileURLToPath(new URL(`../../examples/${name}.s`, import.meta.url)), 'utf8');
 
@@ -44,8 +46,6 @@ const HELPERS = `window.the = {
   },
 }, true`;
 
-const inPage = body => `(async () => { ${body} })()`;
-
 // The registers, in the order of the page.
 const ORDER = ['A', 'X', 'Y', 'S', 'P', 'PC'];
 
@@ -67,6 +67,11 @@ async function programs(value, a2) {
     equal(found, ['2', 1]);
     equal(await value(inPage(`document.querySelector('#problems .goes').click(); const it = the.id('source'); return it.value.slice(it.selectionStart, it.selectionEnd)`)), 'NOWHERE');
     await value(inPage(`the.type(' LDA #1\\n RTS\\n'); await the.until(() => !document.querySelector('#problems li'), 'no error')`));
+  });
+  await test('a click fixes a misspelled name', async () => {
+    await value(inPage(`the.type('LOOP INX\\n BNE LOPO\\n RTS\\n'); await the.until(() => document.querySelector('#problems .fixes'), 'a fix');
+      document.querySelector('#problems .fixes').click(); await the.until(() => the.text('count') === 'No errors', 'no error')`));
+    equal(await value(`the.id('source').value`), 'LOOP INX\n BNE LOOP\n RTS\n');
   });
   await test('a program with errors does not run, and the page says why', async () => {
     await value(inPage(`the.type(' LDA\\n'); await the.ran()`));
@@ -183,6 +188,17 @@ async function keeping(value) {
       the.type('* FULL\\n RTS\\n'); parts.library.keep(); const it = [the.notices().length, the.id('source').value]; of.setItem = set; parts.library.keep(); return it`));
     equal(found, [1, '* FULL\n RTS\n']);
   });
+  await test('forbidden storage gives a message, and the text stays', async () => {
+    const found = await value(inPage(`the.closeNotices(); const of = Storage.prototype, set = of.setItem;
+      of.setItem = () => { throw new DOMException('no', 'SecurityError'); };
+      the.type('* FORBIDDEN\\n RTS\\n'); parts.library.keep(); const it = [the.notices().length, the.id('source').value]; of.setItem = set; parts.library.keep(); return it`));
+    equal(found, [1, '* FORBIDDEN\n RTS\n']);
+  });
+  await test('a page that goes to the background keeps its text at once', async () => {
+    equal(await value(inPage(`the.type('* HIDDEN\\n RTS\\n'); Object.defineProperty(document, 'hidden', {value: true, configurable: true});
+      document.dispatchEvent(new Event('visibilitychange')); delete document.hidden;
+      return JSON.parse(localStorage.getItem('a2.program.' + the.id('programs').value)).text`)), '* HIDDEN\n RTS\n');
+  });
   await test('files: a text is opened; one of 100 MB or of bytes is not, and nothing is lost', async () => {
     const found = await value(inPage(`the.closeNotices(); const before = the.id('source').value, drop = file => {
         const transfer = new DataTransfer(); transfer.items.add(file);
@@ -218,9 +234,9 @@ async function links(value) {
         const bytes = new Uint8Array(await new Response(stream).arrayBuffer()); let it = ''; for (const byte of bytes) it += String.fromCharCode(byte);
         return '#p=' + btoa(it).replaceAll('+', '-').replaceAll('/', '_').replace(/=+$/, ''); };
       const before = the.id('source').value, said = [];
-      for (const it of ['A'.repeat(20 << 20), 'null', '[]', '{"name":1,"text":"x"}', '{"name":"x","text":{"a":1}}']) said.push(await the.link(await pack(it)));
+      for (const it of ['A'.repeat(20 << 20), 'null', '[]', '{"name":1,"text":"x"}', '{"name":"x","text":{"a":1}}', '{"name":"x","text":"y","session":5}']) said.push(await the.link(await pack(it)));
       return [said.length, the.id('source').value === before]`));
-    equal(found, [5, true]);
+    equal(found, [6, true]);
   });
 }
 
@@ -246,8 +262,7 @@ async function sessions(value) {
     await begin('play');
     await press(['H', 'I']);
     await shows('HI');
-    await value(`the.id('end-live').click()`);
-    equal(await value(`the.id('end-live').hidden`), true);
+    await value(inPage(`the.id('end-live').click(); await the.until(() => the.id('end-live').hidden, 'the end of the session')`));
     await value(`the.id('tab-run').click()`);
   });
 }
@@ -261,15 +276,18 @@ async function tools(value) {
     for (let number = 0; number < length; ++number) equal((await use(number)).length > 0, true, `tool ${number}`);
   });
   await test('a listing has the bytes', async () => equal(/A9 01.*LDA #1/.test(await use(0)), true));
-  await test('tests are judged, and kept with the program', async () => {
-    await value(inPage(`the.id('want').value = 'case one\\nreg A=01\\n'; the.id('want').dispatchEvent(new Event('input')); parts.library.keep()`));
-    equal(/1\/1/.test(await use(7)), true);
-    await value(inPage(`the.id('want').value = 'case one\\nreg A=02\\n'`));
-    equal(/0\/1/.test(await use(7, `const name = the.id('programs').value; parts.library.keep()`)), true);
-    equal(await value(`JSON.parse(localStorage.getItem('a2.program.' + the.id('programs').value)).want`), 'case one\nreg A=02\n');
+  await test('a promise that fails gives a run that can be stepped', async () => {
+    await value(inPage(`the.type(';: ensures A = old X + 1\\nNEXT TXA\\n RTS\\n'); the.id('tab-tools').click()`));
+    equal(/FAILS/.test(await use(6)), true);
+    await value(inPage(`the.id('tool-film').click(); await the.until(() => !the.id('back').hidden && /step 2 of 2/.test(the.text('where')), 'the film')`));
+    await value(inPage(`the.id('step-back').click(); await the.until(() => /step 1 of 2/.test(the.text('where')))`));
+    await value(inPage(`the.id('tab-tools').click(); the.type(';: ensures A = old X\\n;: changes A\\nNEXT TXA\\n RTS\\n')`));
+    equal(/HOLDS/.test(await use(6)), true);
+    equal(await value(`the.id('tool-film').hidden`), true);
   });
   await test('a text that a tool makes goes into the editor, and undo takes it back', async () => {
-    await use(8);
+    await value(inPage(`the.type('START LDA #1\\n RTS\\n')`));
+    await use(7);
     equal(await value(inPage(`const before = the.id('source').value; the.id('tool-take').click(); const after = the.id('source').value;
       document.execCommand('undo'); return [after !== before, the.id('source').value === before]`)), [true, true]);
     await value(`the.id('tab-run').click()`);
@@ -314,6 +332,10 @@ export async function appTests(value, a2) {
   await keeping(value);
   await links(value);
   await sessions(value);
+  await replays(value);
+  await sounds(value);
+  await exercises(value);
+  await learning(value);
   await tools(value);
   await layout(value);
 }

@@ -6,7 +6,7 @@ import {expressionOf, inlined, packed} from '../../page/inline.mjs';
 
 const here = name => fileURLToPath(new URL(name, import.meta.url));
 const [file, ...programs] = process.argv.slice(2);
-const modules = Object.fromEntries(programs.map(it => it.split('=')).map(([name, module]) => [name, packed(module)]));
+const modules = Object.fromEntries(programs.map(it => it.split('=')).map(([name, module]) => [name, packed(fs.readFileSync(module))]));
 const policy = "default-src 'none'; script-src 'unsafe-inline' 'wasm-unsafe-eval'; worker-src blob:";
 
 fs.writeFileSync(file, `<!doctype html>

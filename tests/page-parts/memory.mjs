@@ -20,7 +20,7 @@ const does = (module, words, mostPages) => run(module, {
   input: bytes(words[1] === 'mon' ? '300.3FF\n' : 'go 2000\nback 100\n'),
 });
 
-// The module with another size of its first memory, which stands in one byte after the import's name. It may then begin with so little memory
+// The module with another size of its first memory, which is one byte after the import's name. It may then begin with so little memory
 // that its heap is nearly empty.
 function withFirstPages(module, pages) {
   const changed = Buffer.from(module), at = changed.indexOf('\x03env\x06memory\x02\x01') + '\x03env\x06memory\x02\x01'.length;

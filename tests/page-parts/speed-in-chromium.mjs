@@ -4,25 +4,9 @@ import fs from 'node:fs';
 import path from 'node:path';
 import {pathToFileURL} from 'node:url';
 import {browser} from '../film/chromium.mjs';
+import {processorMilliseconds} from './renderers.mjs';
 
 const [file, folder, steps, runs, ...sources] = process.argv.slice(2);
-
-// A file of /proc, or nothing if its process has ended.
-function read(name) {
-  try { return fs.readFileSync(`/proc/${name}`, 'latin1'); } catch { return ''; }
-}
-
-// The processes in which the pages of this script's browser run.
-function renderers() {
-  const parents = new Map(fs.readdirSync('/proc').filter(it => /^\d+$/.test(it)).map(it => [it, read(`${it}/stat`).split(') ').pop().split(' ')[1]]));
-  const isOurs = it => it === String(process.pid) || parents.has(it) && isOurs(parents.get(it));
-  return [...parents.keys()].filter(it => isOurs(it) && read(`${it}/cmdline`).includes('--type=renderer'));
-}
-
-function processorMilliseconds() {
-  const threads = renderers().flatMap(it => fs.readdirSync(`/proc/${it}/task`).map(thread => `${it}/task/${thread}/schedstat`));
-  return threads.reduce((sum, it) => sum + Number(read(it).split(' ')[0]) / 1e6, 0);
-}
 
 const chromium = await browser(), found = {};
 try {

@@ -1,0 +1,103 @@
+// Tests of the parts of a2.html that teach: the manual, exercises, the keys of a session, and sound. (app.mjs calls them.)
+import {equal, test} from './count.mjs';
+import {inPage} from './in-page-of-app.mjs';
+
+const ECHO = 'L LDA $C000\n BPL L\n BIT $C010\n JSR $FDED\n JMP L\n';
+// A tone: 200 touches of the speaker.
+const TONE = ' LDY #200\nL LDA $C030\n LDX #100\nW DEX\n BNE W\n DEY\n BNE L\n RTS\n';
+const WANT = 'stop RETURNED\ncase doubles\ncall DOUBLE A=15\nreg A=2A\ncase keeps X\ncall DOUBLE A=01 X=07\nreg A=02 X=07\n';
+const WRONG = 'START LDA #3\n JSR DOUBLE\n RTS\nDOUBLE ASL A\n TAX\n RTS\n';
+
+export async function learning(value) {
+  await test('the manual opens, and its links lead to its pages', async () => {
+    equal(await value(inPage(`the.id('tab-learn').click(); await the.until(() => the.id('manual').querySelector('h1'), 'a page');
+      return [the.id('manual-page').options.length > 20, the.id('manual').querySelector('h1').textContent]`)), [true, 'The page']);
+    equal(await value(inPage(`location.hash = '#learn=class/an-exercise'; await the.until(() => the.text('manual').includes('Tests for a class'), 'the page');
+      await the.until(() => document.activeElement.id === 'in-an-exercise', 'the heading'); return the.id('manual-page').value`)), 'class');
+    await value(inPage(`document.querySelector('#manual a[href="#learn=promises"]').click(); await the.until(() => the.id('manual-page').value === 'promises', 'a link')`));
+  });
+  await test('an address that is in no manual changes nothing', async () => {
+    for (const hash of ['#learn=__proto__', '#learn=nothing/at-all', '#learn=%E0%A4%A', '#learn=../x', '#learn=']) {
+      await value(inPage(`the.closeNotices(); location.hash = ${JSON.stringify(hash)}; await the.sleep(50)`));
+      equal(await value(`[the.id('manual-page').value, the.notices().length]`), ['promises', 0], hash);
+    }
+    await value(`history.replaceState(null, '', location.href.split('#')[0])`);
+  });
+  await test('a program of the manual opens in the editor, and so does an example', async () => {
+    equal(await value(inPage(`the.id('manual-page').value = 'language'; the.id('manual-page').onchange({target: the.id('manual-page')});
+      await the.until(() => the.id('manual').querySelector('h1').textContent === the.id('manual-page').selectedOptions[0].textContent && location.hash === '#learn=language', 'the page');
+      [...document.querySelectorAll('#manual .program')].find(it => it.textContent.includes('JSR COUT')).querySelector('button').click();
+      return [the.id('programs').value.startsWith('language'), the.id('source').value.includes('JSR COUT')]`)), [true, true]);
+    equal(await value(inPage(`location.hash = '#learn=examples'; await the.until(() => the.text('manual').includes('primes.s'));
+      [...document.querySelectorAll('#manual .program button')].find(it => it.textContent === 'Open primes.s in the editor').click();
+      return the.id('source').value.includes('primes')`)), true);
+  });
+  await test('words are found in the manual', async () => {
+    equal(await value(inPage(`const find = text => { the.id('manual-find').value = text; the.id('manual-find').oninput({target: the.id('manual-find')}); return the.id('manual').querySelectorAll('a').length; };
+      return [find('speaker') > 0, find('xyzzy <b>'), find('') > 5]`)), [true, 0, true]);
+  });
+}
+
+export async function exercises(value) {
+  const press = inPage(`the.id('tab-tests').click(); the.id('verdict').textContent = ''; parts.tests.run(); await the.until(() => the.text('verdict')); return the.text('verdict')`);
+  const want = text => value(inPage(`the.id('want').value = ${JSON.stringify(text)}; the.id('want').dispatchEvent(new Event('input'))`));
+  await test('an exercise says what fails, and the failing case can be stepped, with the lines of the pupil', async () => {
+    await value(inPage(`parts.library.add({name: 'exercise', text: ${JSON.stringify(WRONG)}})`));
+    await want(WANT);
+    equal(await value(press), '1 of 2 passed.');
+    equal(await value(`[...document.querySelectorAll('#cases li')].map(it => it.className)`), ['good', 'bad']);
+    equal(await value(inPage(`document.querySelector('#cases button').click(); await the.until(() => !the.id('panel-run').hidden && the.id('stop').hidden && the.text('where').includes('step 7 of 7'), 'the film');
+      await the.at(4); return [the.text('said').includes('line 5: TAX'), document.querySelector('#gutter .now').textContent]`)), [true, '5']);
+  });
+  await test('a right program passes, a wrong one is not run, and errors of tests are shown', async () => {
+    await value(inPage(`the.type(${JSON.stringify(WRONG.replace(' TAX\n', ''))})`));
+    equal(await value(press), '2 of 2 passed. Well done!');
+    await value(inPage(`the.type(' LDA\\n')`));
+    equal(/^The program has an error/.test(await value(press)), true);
+    await want('nonsense\n');
+    equal(await value(press), 'The tests themselves have an error.');
+  });
+  await test('a link of an exercise opens its tests', async () => {
+    await want(WANT);
+    equal(await value(inPage(`the.closeNotices(); the.copied = null; navigator.clipboard.writeText = async it => { the.copied = it; }; the.id('tab-run').click();
+      the.type(' RTS\\n'); the.id('link').click(); await the.until(() => the.copied, 'a link'); parts.library.add({name: 'other', text: ''});
+      await the.link(new URL(the.copied).hash); await the.until(() => !the.id('panel-tests').hidden); return [the.id('want').value, the.id('source').value]`)), [WANT, ' RTS\n']);
+  });
+}
+
+export async function replays(value) {
+  await test('the keys of a session are recorded, and make the same run again', async () => {
+    await value(inPage(`parts.library.add({name: 'echo live', text: ${JSON.stringify(ECHO)}}); the.id('tab-live').click(); the.id('play').click(); await the.until(() => !the.id('end-live').hidden);
+      for (const key of ['O', 'K']) the.id('terminal').dispatchEvent(new KeyboardEvent('keydown', {key, cancelable: true, bubbles: true}));
+      await the.until(() => parts.live.text.includes('OK'), 'the echo'); the.id('end-live').click(); await the.until(() => !the.id('session-part').hidden, 'a record')`));
+    equal(/^\d+ 4F\n\d+ 4B\n\d+ END\n$/.test(await value(`the.id('session').value`)), true);
+    equal(await value(inPage(`the.id('replay').click(); await the.until(() => the.text('live-says').includes('ran again'), 'the end'); return parts.live.text.startsWith('OK')`)), true);
+  });
+  await test('the debugger begins at the end of the session, and goes back', async () => {
+    const press = keys => value(inPage(`for (const key of ${JSON.stringify(keys)}) the.id('terminal').dispatchEvent(new KeyboardEvent('keydown', {key, cancelable: true, bubbles: true}))`));
+    await value(inPage(`the.id('replay-debug').click(); await the.until(() => !the.id('end-live').hidden && parts.live.text.includes('OK'), 'the end of the session')`));
+    await press([...'who $401', 'Enter']);
+    await value(inPage(`await the.until(() => /O *$/m.test(parts.live.text) || !parts.live.text.includes('OK'), 'the step before the K'); the.id('end-live').click()`));
+  });
+  await test('a link with the keys of a session brings them', async () => {
+    const session = await value(`the.id('session').value`);
+    equal(await value(inPage(`the.closeNotices(); the.copied = null; navigator.clipboard.writeText = async it => { the.copied = it; };
+      the.id('link-session').click(); await the.until(() => the.copied, 'a link'); parts.library.add({name: 'other', text: ''}); const isHidden = the.id('session-part').hidden;
+      localStorage.removeItem('a2.program.echo live'); await the.link(new URL(the.copied).hash); return [isHidden, the.id('session').value, the.notices()[0].includes('Replay it')]`)),
+      [true, session, true]);
+    equal(await value(inPage(`the.copied = null; the.id('link').click(); await the.until(() => the.copied); const other = the.copied; parts.library.add({name: 'other', text: ''});
+      await the.link(new URL(other).hash); return the.id('session').value`)), '');
+  });
+  await test('keys that belong to another program give the message of the program', async () => {
+    await value(inPage(`the.id('session').value = '5 41\\n900 END\\n'; the.type(' RTS\\n'); the.id('replay').click(); await the.until(() => parts.live.text.includes('recording of another source'), 'the message')`));
+    await value(`the.id('tab-run').click()`);
+  });
+}
+
+export async function sounds(value) {
+  await test('the sound of a run has all touches of the speaker, and a silent run is said to be silent', async () => {
+    await value(inPage(`parts.library.add({name: 'tone', text: ${JSON.stringify(TONE)}}); await the.ran(); the.id('sound').click();
+      await the.until(() => the.text('sound-says').includes('200 times') || the.id('sound').hidden, 'the sound'); parts.sound.stop()`));
+    await value(inPage(`the.type(' RTS\\n'); await the.ran(); the.id('sound').click(); await the.until(() => the.text('sound-says').includes('silent') || the.id('sound').hidden, 'no sound')`));
+  });
+}
