@@ -1,5 +1,5 @@
-# Completion of words, options and files behind a2 and the programs beside it, for bash: . editors/a2.bash
-# They stand in the table `words` beside this file; an installed one has them in itself.
+# Completion of commands, options and files for a2 and a2lab, for bash: . editors/a2.bash
+# The table `words` beside this file lists them; an installed file contains the table.
 _a2_words="$(<"${BASH_SOURCE[0]%/*}/words")"
 
 _a2() {
@@ -15,7 +15,7 @@ _a2() {
             continue
         fi
         [[ "$word" == - || "$word" == "${COMP_WORDS[1]}" ]] || continue
-        # (a value is anything)
+        # (a value can be anything)
         [[ "$what" != "$before"=* ]] || return 0
         case "$what" in
             -*) options+=" ${what%=*}" ;;

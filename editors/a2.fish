@@ -1,5 +1,5 @@
-# Completion of words, options and files behind a2 and the programs beside it, for fish.
-# They stand in the table `words` beside this file; an installed one has them in itself.
+# Completion of commands, options and files for a2 and a2lab, for fish.
+# The table `words` beside this file lists them; an installed file contains the table.
 set -l words (cat (status dirname)/words | string collect)
 
 for line in (string split \n -- $words)

@@ -1,2 +1,3 @@
-"""What ./a2lab prove is made of: promises in comments of a source are written as statements with their proofs, and the Rattle kit
-checks these."""
+"""The implementation of ./a2lab prove. It writes the promises in the comments of a source as statements with their proofs, and the Rattle
+kit checks these.
+"""

@@ -1,4 +1,4 @@
-"""Bytes at addresses that are not known by value: what is known of each, by how its memory came of others."""
+"""Bytes at addresses that are not known by value: what is known about each, from how its memory was made from others."""
 
 import re
 from dataclasses import dataclass
@@ -6,13 +6,13 @@ from dataclasses import dataclass
 from .saying import is_fact, most, shape
 from .terms import bare, is_closed, list_of, par
 
-# The facts of this kind that a goal may have: more take the arithmetic too long.
+# How many facts of this kind a goal may have: more take the arithmetic too long.
 MOST_CASES = 14
 
 
 @dataclass
 class Put:
-    """A memory that is another one with a byte stored at an address."""
+    """A memory made from another one by storing a byte at an address."""
 
     before: str
     at: str
@@ -22,7 +22,7 @@ class Put:
 
 @dataclass
 class Cut:
-    """A memory that is another one behind stores whose addresses are numbers."""
+    """A memory made from another one by stores whose addresses are numbers."""
 
     before: str
     stores: list
@@ -31,7 +31,7 @@ class Cut:
 
 @dataclass
 class Kept:
-    """The memory of a world that keeps another one but in ranges of addresses, which are named too."""
+    """The memory of a world that equals another one except in ranges of addresses, which are named too."""
 
     before: str
     names: str
@@ -41,7 +41,7 @@ class Kept:
 
 
 def parts_of(text, tops, sign=1):
-    """What a sum adds and takes away, as texts with their signs. What is taken from a number that is not less is so."""
+    """Returns what a sum adds and subtracts, as texts with their signs. A difference that may be below 0 is one part."""
     text = bare(text)
     depth, cuts = 0, []
     for at, c in enumerate(text):
@@ -60,7 +60,7 @@ def parts_of(text, tops, sign=1):
 
 
 def linear(text, tops):
-    """A sum as its number and its other parts with their signs, sorted."""
+    """Returns a sum as its number and its other parts with their signs, sorted."""
     number, parts = 0, []
     for sign, part in parts_of(text, tops):
         if part.isdigit():
@@ -73,7 +73,7 @@ def linear(text, tops):
 
 
 def sum_of(number, parts):
-    """A sum as a term."""
+    """Returns a sum as a term."""
     def enclosed(it):
         return it if is_closed(it) else par(it)
 
@@ -87,7 +87,7 @@ def sum_of(number, parts):
 
 
 def top_of(tops, term):
-    """What a part of a sum is, most likely, not above: it is proved where it is used."""
+    """Returns the most likely upper bound of a part of a sum. It is proved where it is used."""
     if term in tops:
         return tops[term]
     found = re.fullmatch(r"\((.*) \+ (1|255)\) % 256", term)
@@ -102,14 +102,14 @@ def top_of(tops, term):
 
 
 def span(tops, text):
-    """From which address to which one it is."""
+    """Returns the lowest and the highest address that it can be."""
     number, parts = linear(text, tops)
     low = number - sum(top_of(tops, it) for sign, it in parts if sign < 0)
     return max(low, 0), number + sum(top_of(tops, it) for sign, it in parts if sign > 0)
 
 
 def is_apart(tops, a, b):
-    """Whether two addresses are surely different."""
+    """Returns whether two addresses are certainly different."""
     (m, p), (n, q) = linear(a, tops), linear(b, tops)
     if p == q:
         return m != n
@@ -118,7 +118,7 @@ def is_apart(tops, a, b):
 
 
 def is_same(tops, a, b):
-    """Whether two addresses are surely the same, in other words."""
+    """Returns whether two addresses are certainly the same, though written differently."""
     return a != b and linear(a, tops) == linear(b, tops)
 
 
@@ -127,7 +127,7 @@ def covers(ranges, low, high):
 
 
 def reads_of(term):
-    """The bytes that a term speaks of: each its memory and its address."""
+    """Returns the bytes that a term reads, each as its memory and its address."""
     for found in re.finditer(r"ram_byte ", term):
         memory, at = argument(term, found.end())
         address, _ = argument(term, at + 1)
@@ -135,7 +135,7 @@ def reads_of(term):
 
 
 def argument(text, at):
-    """The argument that begins at a place of a text, and where it ends."""
+    """Returns the argument that begins at a place of a text, and where it ends."""
     depth, end = 0, at
     while end < len(text) and (depth or text[end] not in " )"):
         depth += (text[end] == "(") - (text[end] == ")")
@@ -144,14 +144,14 @@ def argument(text, at):
 
 
 class Finder:
-    """Finds the facts that a goal wants of bytes in a state. `decided` says of bytes, each by its memory and address, whether it is the
-    one that was stored last there."""
+    """Finds the facts that a goal needs about bytes in a state. `decided` says for bytes, each given by its memory and address, whether it
+    is the byte that was stored last there."""
 
     def __init__(self, state, tops, named=(), decided=None):
         self.state, self.tops, self.named = state, tops, named
         self.decided = decided or {}
         self.terms, self.cases, self.last_cases, self.seen, self.deep, self.used = [], [], [], set(), set(), set()
-        # a byte of which it is not decided, with the fact that tells both cases
+        # a byte for which that is not decided, with the fact that has both cases
         self.open = None
         self.queue = []
 
@@ -168,7 +168,7 @@ class Finder:
         return self.state.arithmetic()
 
     def find(self, reads, others=()):
-        """All that is known of bytes that are read; and of others how they came of one another."""
+        """Finds everything that is known about bytes that are read; and for others, how they were made from one another."""
         self.queue = [(memory, bare(address), True) for memory, address in reads]
         self.queue += [(memory, bare(address), False) for memory, address in others]
         while self.queue:
@@ -187,11 +187,11 @@ class Finder:
         self.cases += self.last_cases
 
     def has(self, memory):
-        """The fact that a memory is whole."""
+        """Returns the fact that a memory is whole."""
         return self.state.all_has[memory]
 
     def within(self, address):
-        """Proofs that an address is not below where it begins, and not above where it ends."""
+        """Returns proofs that an address is not below the first and not above the last address of a range."""
         low, high = span(self.tops, address)
         return f"{low} {high} {par(address)} refl {self.by} {self.by}"
 
@@ -254,7 +254,7 @@ class Finder:
         low, high = span(self.tops, address)
         return f"{low} {high} {par(address)} @ refl {self.by} {self.by}"
 
-    # What holds of each number below another
+    # What holds for each number below another
 
     def instances(self, memory, address):
         for fact, e, words in self.state.universals:
@@ -265,7 +265,7 @@ class Finder:
                     self.instance(fact, e, words, index)
 
     def may_count(self, e, index, words):
-        """Whether a number may be below the count."""
+        """Returns whether a number may be below the count."""
         is_counted = linear(index, self.tops) == linear(words.up(e[2]), self.tops) and words.down(e[2]) == "0"
         return not is_counted and len(self.used) < MOST_CASES and span(self.tops, index)[0] < most(e[2], [65535] * e[1])
 
@@ -279,7 +279,7 @@ class Finder:
         self.queue += [(memory, bare(address), False) for memory, address in there.noted]
 
     def alike(self):
-        """Bytes of one memory whose addresses may be the same."""
+        """Returns bytes of one memory whose addresses may be the same."""
         of = {}
         for memory, address in self.seen:
             if not isinstance(self.state.links.get(memory), (Put, Cut)):
@@ -302,7 +302,7 @@ def index_name(index):
 
 
 def read_as(e, holds, words, proof, name):
-    """Proofs of what a fact says as the arithmetic reads it, without implications. Names in them begin with this one."""
+    """Returns proofs of what a fact says as the arithmetic reads it, without implications. Names in them begin with this one."""
     if e[0] == "old":
         return read_as(e[1], holds, words.at_entry(), proof, name)
     if e[0] == "at":
@@ -337,7 +337,7 @@ def is_compared(e):
 
 
 def supposing(e, holds, words, made, name):
-    """Proofs of what follows where a fact holds, or does not, each with the other case."""
+    """Returns proofs of what follows if a fact holds, or if it does not, each with the other case."""
     if e[0] == "old":
         return supposing(e[1], holds, words.at_entry(), made, name)
     if e[0] == "at":
@@ -361,8 +361,8 @@ def supposing(e, holds, words, made, name):
 
 
 def patterns(e, words, tops):
-    """The bytes of which what is counted speaks: memory, and the address as its number and its other parts, and the sign of what is
-    counted."""
+    """Returns the bytes in a counted expression: the memory, the address as its number and its other parts, and the sign of the counted
+    variable."""
     there = words.counting(e, "◊")
     there.noted = []
     there.says(e[3])
@@ -376,7 +376,7 @@ def patterns(e, words, tops):
 
 
 def index_at(address, number, others, sign, tops):
-    """What is counted, where a byte's address is this one."""
+    """Returns the value of the counted variable for which a byte's address is this one."""
     here, parts = linear(address, tops)
     number, parts = sign * (here - number), [(sign * s, it) for s, it in parts] + [(-sign * s, it) for s, it in others]
     for s, it in list(parts):

@@ -1,17 +1,18 @@
-"""The statements of a source text. What is found here is a guess: the prover computes the statements from the text itself, and
-refuses what does not agree."""
+"""The statements of a source text. What is found here is a guess: the prover computes the statements from the text itself, and refuses a
+guess that does not agree.
+"""
 
 import re
 from dataclasses import dataclass, field
 
 from .opcodes import encoded
-from .refusal import Refusal
+from .refusal import SEE_CHECK, Refusal
 
 IMPLIED = set(
     "BRK CLC CLD CLI CLV DEX DEY INX INY NOP PHA PHP PLA PLP RTI RTS SEC SED SEI TAX TAY TSX TXA TXS TYA".split()
 )
 SHIFTS = set("ASL LSR ROL ROR".split())
-# Each branch, with the flag that it tests, and the value with which it is taken.
+# Each branch, with the flag that it tests, and the value for which it is taken.
 BRANCHES = {
     "BPL": ("N", False),
     "BMI": ("N", True),
@@ -24,7 +25,7 @@ BRANCHES = {
 }
 OTHERS = set("ADC AND BIT CMP CPX CPY DEC EOR INC JMP JSR LDA LDX LDY ORA SBC STA STX STY".split())
 MNEMONICS = IMPLIED | SHIFTS | set(BRANCHES) | OTHERS
-# Mnemonics that have no zero-page form without an index, and those whose zero-page form is the only one of an index.
+# Mnemonics that have no zero-page form without an index, and those that have only a zero-page form with an index.
 NO_ZERO_PAGE = {"JMP", "JSR"}
 ZERO_PAGE_Y = {"LDX", "STX"}
 LENGTHS = {
@@ -53,7 +54,7 @@ TERM = re.compile(r"""\s*(\$[0-9A-Fa-f]{1,4}|%[01]{1,16}|\d{1,5}|'[^']'|"[^"]"|[
 
 @dataclass
 class Statement:
-    """A statement in its place, with its bytes; of an instruction `mnemonic`, `mode` and `value` are there."""
+    """A statement at its address, with its bytes; for an instruction, `mnemonic`, `mode` and `value` are set."""
 
     line: int
     address: int
@@ -71,7 +72,7 @@ class Statement:
 
 @dataclass
 class Line:
-    """A line that says something: its label, its operation in capitals, and what stands behind it."""
+    """A line that is not empty: its label, its operation in capitals, and what follows it."""
 
     number: int
     label: str
@@ -96,7 +97,7 @@ class Program:
         return any(it.is_instruction and it.address <= address < it.address + it.length for it in self.statements)
 
     def laid(self):
-        """Its bytes, by their addresses."""
+        """Returns its bytes, by their addresses."""
         return {it.address + k: byte for it in self.statements for k, byte in enumerate(it.bytes)}
 
     def entry(self):
@@ -116,7 +117,7 @@ def without_comment(text):
 
 
 def line_of(number, text):
-    """What a line says; None of a comment or a blank line."""
+    """Returns what a line says, or None for a comment or a blank line."""
     if text.startswith("*") or not text.strip(" \t") or text.lstrip(" \t").startswith(";"):
         return None
     text = without_comment(text)
@@ -132,20 +133,20 @@ class Assembler:
         self.places = {}
 
     def value(self, line, text, here):
-        """The value of an expression."""
+        """Returns the value of an expression."""
         part = text[0] if text[:1] in "<>" and text else ""
         rest = text[len(part) :]
         total, sign = 0, 1
         while True:
             found = TERM.match(rest)
             if not found:
-                raise Refusal(line.number, f"{text} is no expression: ./a2lab check tells more")
+                raise Refusal(line.number, f"{text} is not a valid expression; {SEE_CHECK}")
             total += sign * self.term(line, found[1], here)
             rest = rest[found.end() :]
             if not rest:
                 break
             if rest[0] not in "+-":
-                raise Refusal(line.number, f"{text} is no expression: ./a2lab check tells more")
+                raise Refusal(line.number, f"{text} is not a valid expression; {SEE_CHECK}")
             sign = 1 if rest[0] == "+" else -1
             rest = rest[1:]
         return total if not part else total % 256 if part == "<" else total // 256 % 256
@@ -162,18 +163,18 @@ class Assembler:
         if text[0] in "'\"":
             return ord(text[1]) | (128 if text[0] == '"' else 0)
         if text not in self.names:
-            raise Refusal(line.number, f"{text} is no name of the source: ./a2lab check tells more")
+            raise Refusal(line.number, f"unknown name {text}; {SEE_CHECK}")
         return self.names[text]
 
     def is_small(self, line, text, here):
-        """Whether the value is known before, and below 256."""
+        """Returns whether the value is known from earlier lines, and below 256."""
         try:
             return 0 <= self.value(line, text, here) < 256
         except Refusal:
             return False
 
     def mode_of(self, line, here):
-        """The mode of a line's operand, and the text of its expression."""
+        """Returns the addressing mode of a line's operand, and the text of its expression."""
         op, operand = line.operation, line.operand
         if op in BRANCHES:
             return "Relative", operand
@@ -203,7 +204,7 @@ class Assembler:
         return len(line.operand.split(",")) * (2 if line.operation == "DW" else 1)
 
     def first_pass(self):
-        """Places, modes and names."""
+        """Finds addresses, addressing modes and names."""
         here, placed = 0x300, []
         for line in self.lines:
             op = line.operation
@@ -221,7 +222,7 @@ class Assembler:
             elif op in ("DFB", "DW", "ASC", "DS"):
                 placed.append((line, Statement(line.number, here, self.data_length(line, here))))
             elif op not in ("", "ORG"):
-                raise Refusal(line.number, f"{op} is no operation: ./a2lab check tells more")
+                raise Refusal(line.number, f"unknown operation {op}; {SEE_CHECK}")
             if op not in ("", "ORG"):
                 here += placed[-1][1].length
         return placed
@@ -246,5 +247,5 @@ class Assembler:
             else:
                 it.bytes = self.data(line, it)
             if it.address + it.length > RAM_END:
-                raise Refusal(line.number, "a byte lies at or above $C000: ./a2lab check tells more")
+                raise Refusal(line.number, f"a byte is at or above $C000; {SEE_CHECK}")
         return Program([it for _, it in placed], self.names, self.places)

@@ -1,4 +1,4 @@
-"""What is answered of each routine of a source, or of the routines of several."""
+"""The answer for each routine of a source, or for the routines of several sources."""
 
 from pathlib import Path
 
@@ -10,7 +10,7 @@ from .refusal import Refusal
 from .trying import tried
 from .writing import PROGRAM_MARKS, S, Source, Written, write_crate
 
-PROVED, NOT_PROVED, REFUSED = "PROVED", "NOT PROVED", "REFUSED"
+PROVED, NOT_PROVED, REFUSED = "PROVED", "NOT PROVED", "ERROR"
 STATUS = {PROVED: 0, REFUSED: 1, NOT_PROVED: 6}
 
 
@@ -28,7 +28,7 @@ class Judge:
         self.written = {}
 
     def prepare(self, names):
-        """Judges the routines of these names, or all, as far as that can be done without the kit, and writes proofs of the rest."""
+        """Judges the routines with these names, or all, as far as that is possible without the kit, and writes proofs for the rest."""
         self.chosen = [(label, it) for label, it in self.found if not names or label in names]
         promises = [it for _, it in self.chosen if isinstance(it, Promise)]
         self.look(promises)
@@ -36,17 +36,17 @@ class Judge:
         self.write_proofs([it for it in promises if it.name not in self.answers])
 
     def report(self):
-        """A line of each routine that is judged, and the status of all."""
+        """Prints a line for each routine that is judged; returns the status of all."""
         judged = [(label, REFUSED, str(it)) if isinstance(it, Refusal) else (label, *self.answers[label]) for label, it in self.chosen]
         lines = [f"{label or 'a promise'}: {answer}" + (f": {why}" if why else "") for label, answer, why in judged]
         return lines, max(STATUS[answer] for _, answer, _ in judged)
 
     def look(self, promises):
-        """Refuses what the rules do not speak of; a routine that is called too."""
+        """Refuses what the rules do not cover, also in a routine that is called."""
         for promise in promises:
             other = self.routines[promise.address].promise
             if other is not promise:
-                self.answers[promise.name] = (NOT_PROVED, f"{other.name} begins here too, and its promise alone is judged")
+                self.answers[promise.name] = (NOT_PROVED, f"{other.name} begins here too, and only its promise is judged")
             for clause, why in self.reasons(promise):
                 self.answers.setdefault(promise.name, (REFUSED, str(Refusal(clause.line, why, clause.column))))
 
@@ -82,13 +82,13 @@ class Judge:
             self.take(top, self.needed)
 
     def hear(self, said, folder):
-        """Answers by what the kit said of the crate in a folder."""
+        """Answers from what the kit said about the crate in a folder."""
         answers = kit.Answers(said, folder, self.source.name)
         for top in self.tops:
             self.answers[top.routine.name] = self.answer(top, answers)
 
     def take(self, written, needed):
-        """The proofs that one stands on, and it behind them."""
+        """Takes the proofs that a proof depends on, and then the proof itself."""
         for call in sorted(written.calls):
             self.take(self.written[call], needed)
         needed[written.routine.promise.address, written.s] = written
@@ -122,11 +122,11 @@ class Judge:
         reasons = answers.misread("Program", PROGRAM_MARKS) + answers.misread(top.told.module, top.told.marks)
         reasons += answers.unmet(top)
         reasons += [reason for it in needed.values() for reason in answers.reasons(it)]
-        return NOT_PROVED, "; ".join(reasons[:2]) or f"what the kit said stands in {answers.keep(answers.folder / 'said')}"
+        return NOT_PROVED, "; ".join(reasons[:2]) or f"the kit's output is in {answers.keep(answers.folder / 'said')}"
 
 
 def prove(judges, room_of):
-    """Has the kit check what these have written, all in one crate: each check begins with reading what the rules stand on."""
+    """Makes the kit check what these have written, all in one crate, because each check begins by reading everything below the rules."""
     asking = [it for it in judges if it.tops]
     if asking:
         folder = room_of()
@@ -137,11 +137,11 @@ def prove(judges, room_of):
 
 
 def text_of(path):
-    """The text of a source's file, a character for each byte."""
+    """Returns the text of a source file, with one character for each byte."""
     return Path(path).read_bytes().decode("latin-1")
 
 
 def lines_of(text):
-    """The lines of a text; a carriage return at the end of one is dropped."""
+    """Returns the lines of a text, without a carriage return at the end."""
     lines = text.split("\n")
     return [line.removesuffix("\r") for line in (lines[:-1] if lines[-1] == "" else lines)]

@@ -1,5 +1,6 @@
-"""Expressions of promises, as docs/manual/promises.md has them: the same words, signs and refusals as in crates/a2_promise. An
-expression is read as a tree, which prove/written.py has."""
+"""Expressions of promises, as docs/manual/promises.md has them: the same words, signs and errors as in crates/a2_promise. An expression is
+read as a tree, as defined in prove/written.py.
+"""
 
 import re
 
@@ -21,44 +22,44 @@ ATOMS = {
     "cycles": ("Cycles", NUMBER),
     "steps": ("Steps", NUMBER),
 }
-# How tight what joins two expressions binds them.
+# How tightly each operator binds its two expressions.
 IFF, OR, AND, BEHIND_AND, COMPARISON, BITS, BIT_AND, SUM, PRODUCT = range(1, 10)
 BEHIND_COMPARISON = BITS
 RANKS = {"iff": IFF, "or": OR, "and": AND, "|": BITS, "^": BITS, "&": BIT_AND, "+": SUM, "-": SUM}
 RANKS |= {sign: PRODUCT for sign in "*/%"} | {sign: COMPARISON for sign in RELATIONS}
 MOST_NAMES = 4
-COUNTED = "here stands what is counted, as in for all i < 8: [#$2000 + i] = 0"
-# Words that mean something else than a name that is counted.
+COUNTED = "expected a counter, its limit and `:`, as in for all i < 8: [#$2000 + i] = 0; a register or flag cannot be the counter"
+# Words that cannot be the name of a counted variable.
 OPENINGS = set("old at text not if for sum min max abs bit signed word".split())
 WORDS = set(ATOMS) | OPENINGS | {"iff", "or", "and"}
 TOKEN = re.compile(r"[ \t]*(?:\$([0-9A-Fa-f]*)|([0-9]+)|([A-Za-z][A-Za-z0-9_]*)|(<=|<>|>=|\.\.|.))", re.DOTALL)
 
 # A text between quotes, from the blank to ~.
 TEXT = re.compile(r"""[ \t]*(?:"([ !#-~]+)"|'([ -&(-~]+)')""")
-TEXT_WANTED = 'a text in quotes is wanted here, as in text $0400 = "HI", which ASC "HI" lays'
+TEXT_WANTED = 'expected a text in quotes with at least one character, as in text $0400 = "HI"'
 
-# Keys as they are spelt between quotes, up to the line's end: \ and a letter are one.
+# Keys as they are spelled between quotes, up to the end of the line: \ and a letter are one key.
 ESCAPED = {"r": 0x0D, "b": 0x08, "f": 0x15, "x": 0x18, "\\": 0x5C}
 TYPED, KEY = re.compile(r'[ \t]*"((?:\\[rbfx\\]|[ -\[\]-~])*)"'), re.compile(r"\\([rbfx\\])|([ -\[\]-~])")
-TYPED_WANTED = 'a text in quotes is wanted here and nothing behind it, as in prints "YES\\r": \\r is a return, and \\\\ a \\'
+TYPED_WANTED = 'expected a text in quotes and nothing after it, as in prints "YES\\r"; write \\r for RETURN and \\\\ for \\'
 MOST_TYPED = 4096
 
 
 def spelt(keys):
-    """Keys as a text in quotes."""
+    """Returns keys as a text in quotes."""
     letters = {key: "\\" + letter for letter, key in ESCAPED.items()}
     return '"' + "".join(letters.get(key, chr(key)) for key in keys) + '"'
 
 
 class Piece:
-    """An expression as it was read: its tree, its kind, and where it begins."""
+    """An expression that was read: its tree, its kind, and where it begins."""
 
     def __init__(self, tree, kind, at):
         self.tree, self.kind, self.at = tree, kind, at
 
 
 class Reader:
-    """A line of a promise as it is read, from the left to the right. `names` are those of the source."""
+    """Reads a line of a promise from left to right. `names` are those of the source."""
 
     def __init__(self, text, line, offset, names):
         self.text, self.line, self.offset, self.names = text, line, offset, names
@@ -71,7 +72,7 @@ class Reader:
         raise Refusal(self.line, says, self.offset + (self.at if at is None else at) + blanks + 1)
 
     def next(self):
-        """What stands next, a token of class end where nothing does."""
+        """Returns the next token, or a token of class end if there is none."""
         found = TOKEN.match(self.text, self.at)
         if not found:
             return Token("end", "")
@@ -94,12 +95,12 @@ class Reader:
 
     def ended(self):
         if self.next()[0] != "end":
-            self.refuse("this can't stand here: and, or, iff, a comparison or the line's end may")
+            self.refuse("unexpected text; remove it, or write an operator or a comma before it")
 
     # Numbers and addresses
 
     def valued(self, token):
-        """The number of four digits at most, or of a name of the source, if a token is one."""
+        """Returns the number, if a token is a number of at most four digits or a name of the source."""
         if token.kind == "place":
             return int(token.text, 16) if 1 <= len(token.text) <= 4 else None
         return self.names.get(token.text) if token.kind == "word" else None
@@ -108,7 +109,7 @@ class Reader:
         token = self.next()
         number = int(token.text) if token.kind == "decimal" and int(token.text) < 2**32 else self.valued(token)
         if number is None:
-            self.refuse("a number, $ and up to four digits, or a name of the source is wanted here")
+            self.refuse("expected a number, `$` with one to four hexadecimal digits, or a name that the source defines")
         self.take()
         return token, number
 
@@ -116,7 +117,7 @@ class Reader:
         token = self.next()
         address = self.valued(token)
         if address is None:
-            self.refuse("this is no name of the source, no register (A X Y S), no flag (C Z N V D I) and no address")
+            self.refuse("expected a register (A X Y S), a flag (C Z N V D I), an address such as $10 or a name that the source defines")
         self.take()
         return token, address
 
@@ -124,12 +125,12 @@ class Reader:
 
     def number(self, piece):
         if piece.kind == FACT:
-            self.refuse("a number is wanted here, and this says that something holds", piece.at)
+            self.refuse("expected a number such as A + 1, found a condition, which is true or false", piece.at)
         return piece.tree
 
     def fact(self, piece):
         if piece.kind == NUMBER:
-            self.refuse("something that holds or not is wanted here, as A = 3, and this is a number", piece.at)
+            self.refuse("expected a condition such as A = 3, found a number; compare it with another number", piece.at)
         return piece.tree
 
     # Expressions
@@ -146,7 +147,7 @@ class Reader:
 
     def joined(self, left, rank, sign):
         kind, wanted = (NUMBER, self.number) if sign in OPERATIONS else (FACT, self.number if sign in RELATIONS else self.fact)
-        # (a comparison may go on with its last number)
+        # (a comparison may continue with its last number)
         x = left.tree if rank == COMPARISON and is_comparison(left.tree) else wanted(left)
         return Piece(("joined", sign, x, wanted(self.expression(rank + 1))), kind, left.at)
 
@@ -158,7 +159,7 @@ class Reader:
             return opened
         if token.kind == "word" and token.text in self.counted:
             self.take()
-            # (of two that have one name it is the inner one)
+            # (of two with the same name, it is the inner one)
             number = max(k for k, name in enumerate(self.counted) if name == token.text)
             return Piece(("counted", token.text, number), NUMBER, at)
         if token.kind == "decimal":
@@ -166,7 +167,7 @@ class Reader:
         return Piece(("byte", *self.address()), NUMBER, at)
 
     def opened(self, token, at):
-        """What a word or sign opens."""
+        """Reads what a word or sign opens."""
         kind, text = token
         if kind == "word" and text in ATOMS:
             self.take()
@@ -198,12 +199,12 @@ class Reader:
 
     def group(self, at, _):
         within = self.expression()
-        self.expect(")", "a ) is wanted here")
+        self.expect(")", "expected `)`")
         return Piece(("group", within.tree), within.kind, at)
 
     def bracketed(self):
         address = self.number(self.expression())
-        self.expect("]", "a ] is wanted here, as in [#$2000 + X]")
+        self.expect("]", "expected `]`, as in [#$2000 + X]")
         return address
 
     def byte(self, at, _):
@@ -213,7 +214,7 @@ class Reader:
         return Piece(("literal", *self.literal()), NUMBER, at)
 
     def of_next(self, at, word):
-        """The number that a word or sign makes of the one that stands next."""
+        """Returns the number that a word or sign makes from the one that follows."""
         form = {"-": "minus", "abs": "magnitude", "signed": "signed"}[word]
         return Piece((form, self.number(self.beginning())), NUMBER, at)
 
@@ -224,7 +225,7 @@ class Reader:
     def at_label(self, at, _):
         kind, name = self.next()
         if kind != "word" or name not in self.names:
-            self.refuse("a label of the source is wanted here, as in at LOOP X")
+            self.refuse("`at` needs a label of the source, as in at LOOP X")
         self.take()
         within = self.beginning()
         return Piece(("there", name, self.names[name], within.tree), within.kind, at)
@@ -234,7 +235,7 @@ class Reader:
 
     def conditional(self, at, _):
         by = self.fact(self.expression())
-        self.expect("then", "then is wanted here, as in if C then A = 1 else A = 0")
+        self.expect("then", "expected `then`, as in if C then A = 1 else A = 0")
         one = self.expression()
         if not self.took("else"):
             return Piece(("provided", by, self.fact(one)), FACT, at)
@@ -255,31 +256,31 @@ class Reader:
         number = self.number(self.expression(BEHIND_COMPARISON))
         self.expect(":", COUNTED)
         if len(self.counted) >= MOST_NAMES:
-            self.refuse("at most four names are counted within one another")
+            self.refuse("at most four `for all` and `sum` can be nested")
         self.counted.append(name)
         within = self.fact(self.expression()) if kind == FACT else self.number(self.expression(BEHIND_COMPARISON))
         self.counted.pop()
         return form, name, len(self.counted), number, within
 
     def each(self, at, _):
-        self.expect("all", "all is wanted here, as in for all i < 8: [#$2000 + i] = 0")
+        self.expect("all", "expected `all`, as in for all i < 8: [#$2000 + i] = 0")
         return Piece(self.count("for_all", FACT), FACT, at)
 
     def sum_of(self, at, _):
         return Piece(self.count("sum_of", NUMBER), NUMBER, at)
 
     def pair_of(self, at, word):
-        says = "is wanted here, as in min(A, X)"
-        self.expect("(", f"a ( {says}")
+        says = "as in min(A, X)"
+        self.expect("(", f"expected `(`, {says}")
         x = self.number(self.expression())
-        self.expect(",", f"a comma {says}")
+        self.expect(",", f"expected a comma, {says}")
         y = self.number(self.expression())
-        self.expect(")", f"a ) {says}")
+        self.expect(")", f"expected `)`, {says}")
         return Piece(("least" if word == "min" else "greatest", x, y), NUMBER, at)
 
     def bit(self, at, _):
         place = self.number(self.beginning())
-        self.expect("of", "of is wanted here, as in bit 3 of A")
+        self.expect("of", "expected `of`, as in bit 3 of A")
         return Piece(("bit", place, self.number(self.beginning())), NUMBER, at)
 
     def text_at(self, at, _):
@@ -292,7 +293,7 @@ class Reader:
         return Piece((*start, ord('"' if found[1] else "'"), found[1] or found[2]), FACT, at)
 
     def typed(self):
-        """The keys that the rest of the line spells."""
+        """Returns the keys that the rest of the line spells."""
         found = TYPED.fullmatch(self.text, self.at)
         if not found:
             self.refuse(TYPED_WANTED)

@@ -1,4 +1,4 @@
-"""A state that is as a routine requires, written for the prover: so there is a world of which its promise speaks."""
+"""A state that is as a routine requires, written for the prover. It shows that there is a world to which the promise applies."""
 
 from .terms import flag, list_of
 

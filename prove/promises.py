@@ -4,16 +4,16 @@ import re
 from dataclasses import dataclass, field
 
 from .language import ATOMS, MOST_TYPED, Reader
-from .refusal import Refusal
+from .refusal import TRY_IT, Refusal
 from .written import said
 
-OUTSIDE = "this stands in no routine: lines with requires, ensures, changes or takes before a label begin one"
+OUTSIDE = "no promise of a routine comes before this line; write requires, ensures or changes lines before the label of the routine"
 KINDS = ("requires", "ensures", "changes", "takes", "invariant", "decreases", "note")
-# What is tried, and not proved.
+# Clauses that are tried, but not proved.
 TRIED = ("prints",)
-# What lines begin with that speak of the run as a whole: they are of `./a2lab promise`.
+# The first words of lines about the run as a whole: those are for `./a2lab promise`.
 OF_RUN = set("case keys limit call screen mem reg stop stops cycles bytes must".split())
-VERBS = "a line of a promise begins with requires, ensures, changes, prints, takes, invariant, decreases or note"
+VERBS = "expected requires, ensures, changes, prints, takes, invariant, decreases or note after `;:`"
 
 
 @dataclass
@@ -27,7 +27,7 @@ class Clause:
 @dataclass
 class Changes:
     registers: set = field(default_factory=set)
-    # from one address up to another, both among them
+    # from one address up to another, both included
     ranges: list = field(default_factory=list)
 
     def addresses(self):
@@ -36,8 +36,8 @@ class Changes:
 
 @dataclass
 class Line:
-    """A line before a routine's label: its number, what stands behind its ;:, its verb, and what it says, which is a tree, a list of
-    what may change, or one of keys."""
+    """A line before a routine's label: its number, what follows its ;:, its verb, and what it says, which is a tree, a list of what may
+    change, or a list of keys."""
 
     number: int
     text: str
@@ -64,11 +64,11 @@ class Promise:
     wanted: list
     promised: list
     changes: Changes
-    # the keys that it takes, which wait where it is entered
+    # the keys that it takes, which wait when it is entered
     keys: list = field(default_factory=list)
     lines: list = field(default_factory=list)
     within: list = field(default_factory=list)
-    # a state that is as it requires, where one was found
+    # a state that is as it requires, if one was found
     found: object = None
 
 
@@ -89,7 +89,7 @@ class Block:
 
 
 def promise_in(text):
-    """What stands behind ;: in a line, and how many bytes stand before that."""
+    """Returns what follows ;: in a line, and how many bytes are before that."""
     rest = text.lstrip(" \t")
     return (rest[2:], len(text) - len(rest) + 2) if rest.startswith(";:") else None
 
@@ -100,7 +100,7 @@ def is_of_run(rest):
 
 
 def take_changes(reader, changes):
-    """What may change, each as it is written."""
+    """Reads what may change, each item as it is written."""
     if reader.took("nothing"):
         reader.ended()
         return []
@@ -118,7 +118,7 @@ def take_change(reader, changes):
             changes.registers.add(register)
             return "held", register
     if reader.took("S"):
-        reader.refuse("S is as it should be where a routine returns: it is not among what changes")
+        reader.refuse("S cannot be listed in `changes`; a routine must pull as many bytes as it pushes")
     for flag in "CZNVDI":
         if reader.took(flag):
             return "held", ATOMS[flag][0]
@@ -128,22 +128,22 @@ def take_change(reader, changes):
         return "byte", token, first
     other, last = reader.address()
     if last < first:
-        reader.refuse("the last address is below the first")
+        reader.refuse("the last address of the range is below the first; write the lower one first")
     changes.ranges.append((first, last))
     return "bytes", token, first, other, last
 
 
 def take_keys(reader, keys):
-    """The keys of a line, which come behind those of the lines above."""
+    """Reads the keys of a line, which come after those of the lines above."""
     more = reader.typed()
     if len(keys) + len(more) > MOST_TYPED:
-        reader.refuse("these are more than 4,096 characters")
+        reader.refuse("these texts have more than 4,096 characters together; shorten them")
     keys += more
     return more
 
 
 def take_line(block, number, rest, offset, names):
-    """Takes up a line of a promise; what says something of the run is left to others."""
+    """Reads a line of a promise. Lines about the run as a whole are left to others."""
     if is_of_run(rest):
         return
     block.first = block.first or number
@@ -157,7 +157,7 @@ def take_line(block, number, rest, offset, names):
 def take_verb(block, reader):
     verb = reader.next().text
     if verb in TRIED:
-        reader.refuse(f"{verb} can't be proved: a2lab promise tries it")
+        reader.refuse(f"`{verb}` cannot be proved; {TRY_IT}")
     if verb not in KINDS:
         reader.refuse(VERBS)
     reader.take()
@@ -173,7 +173,7 @@ def take_verb(block, reader):
     tree = reader.number(piece) if verb == "decreases" else reader.fact(piece)
     expr = said(tree)
     if verb in ("requires", "ensures") and labels_in(expr):
-        reader.refuse("at a label speaks of a run on its way: lines invariant, decreases and note may have it", start)
+        reader.refuse("`at` is allowed only in invariant, decreases and note lines", start)
     reader.ended()
     text = reader.text[start:]
     column = reader.offset + len(reader.text) - len(text.lstrip(" \t")) + 1
@@ -182,7 +182,7 @@ def take_verb(block, reader):
 
 
 def labels_in(e):
-    """The labels of which an expression says what was there."""
+    """Returns the labels at which an expression refers to an earlier state."""
     found = [e[1]] if e[0] == "at" else []
     return found + [it for part in e[1:] if isinstance(part, tuple) for it in labels_in(part)]
 
@@ -196,9 +196,10 @@ def close(found, program, block, line):
     if block.refused:
         found.append((label, block.refused))
     elif not label:
-        found.append(("", Refusal(block.first, "a promise stands before the line of a label", 1)))
+        says = "expected a line with a label after this promise; move the promise to just before its routine"
+        found.append(("", Refusal(block.first, says, 1)))
     elif program.instruction_at(address) is None:
-        says = "a promise stands before a routine, and no instruction begins at this label"
+        says = "no instruction begins at the label after this promise; move the promise to just before its routine"
         found.append((label, Refusal(block.first, says, 1)))
     elif block.is_within:
         attach(found, block, label, line.number, address)
@@ -223,13 +224,13 @@ def attach(found, block, label, line, address):
 
 
 def without_run(text):
-    """A line, blank where it says something of the run."""
+    """Returns a line, or a blank one if it says something about the run as a whole."""
     said = promise_in(text)
     return "" if said and is_of_run(said[0]) else text
 
 
 def promises_of(texts, lines, program):
-    """Each promise of a source's lines, or why lines are none, with the label that they stand before."""
+    """Returns each promise of a source's lines, or the error in the lines, with the label that follows them."""
     by_number = {line.number: line for line in lines}
     found, block = [], Block()
     for number, text in enumerate(texts, 1):

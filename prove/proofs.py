@@ -1,5 +1,6 @@
-"""The proof that a routine meets its promise, found by running it on terms: ways fork at branches whose flag is not known, a loop
-with an invariant is gone through once, a call is what the routine called promises."""
+"""The proof that a routine meets its promise, found by running it on terms. Paths fork at branches whose flag is not known. A loop with an
+invariant is run once. A call is what the called routine promises.
+"""
 
 import copy
 import re
@@ -16,18 +17,18 @@ from .terms import add, bare, in_words, list_of, modulo, par
 from .trying import cells_in
 
 MOST_BRANCHES = 9
-# How many numbers are gone through one by one where each below a number is spoken of.
+# Up to how many numbers are tried one by one, if something is said about each number below another.
 MOST_UNROLLED = 32
-# With more facts than these a comparison is proved by those of them that speak of what it compares.
+# With more facts than this, a comparison is proved only from those about what it compares.
 MANY_FACTS = 100
-# How many bytes of a goal are told apart, whether they were stored last.
+# For how many bytes of a goal the cases are distinguished, whether they were stored last.
 MOST_DECIDED = 4
-NO_KEYS_IN_LINES = "what is said at a label can't speak of keys"
-MAY_CHANGE = "a byte that does not stand behind changes may be another"
+NO_KEYS_IN_LINES = "lines at a label cannot mention keys"
+MAY_CHANGE = "a byte that is not listed in `changes` may change"
 STORES, CHANGES = ("STA", "STX", "STY"), ("INC", "DEC", "ASL", "LSR", "ROL", "ROR")
 MOST_STEPS = 20_000
-TOO_LONG = "this goes on for too long: a loop whose count is not known wants lines invariant and decreases before its label"
-TOO_MANY = f"more than {MOST_BRANCHES} branches one behind another are too many ways: a line note before a label joins them"
+TOO_LONG = "this runs for too long; a loop whose count is not known needs invariant and decreases lines before its label"
+TOO_MANY = f"more than {MOST_BRANCHES} branches one after another make too many paths; join them with a note line before a label"
 
 
 class Loop:
@@ -39,23 +40,23 @@ class Loop:
         self.invariants = within.invariants
         self.measure = within.measures[0] if within.measures else None
         self.labels = sorted({label for clause in within.invariants + within.measures for label in labels_in(clause.expr)})
-        # the keys that are taken where the run comes to it, once that is known
+        # the keys that are taken when the run reaches it, once that is known
         self.taken = None
 
     def come(self, taken, turns):
-        """Notes the keys that are taken where a way comes to it, or comes back; they are the same each time."""
+        """Notes the keys that are taken when a path reaches it, or returns to it; they are the same each time."""
         if self.taken is None:
             self.taken = list(taken)
         label, line, more = self.within.label, self.within.line, taken[len(self.taken) :]
         if self.taken != taken and turns:
-            says = f"each turn of {label} takes keys, {spelt(more)}, and {NO_KEYS_IN_LINES}"
-            raise Refusal(line, f"{says}: without lines before its label a loop is gone through step by step")
+            says = f"each turn of {label} takes keys, {spelt(more)}, but {NO_KEYS_IN_LINES}"
+            raise Refusal(line, f"{says}; without lines before its label a loop is followed step by step")
         if self.taken != taken:
-            raise Refusal(line, f"ways come to {label} behind other keys, {spelt(self.taken)} and {spelt(taken)}, and {NO_KEYS_IN_LINES}")
+            raise Refusal(line, f"paths reach {label} after different keys, {spelt(self.taken)} and {spelt(taken)}, but {NO_KEYS_IN_LINES}")
 
 
 class Routine:
-    """A promise, and the bytes of the stack that its routine stores at, by the S that it is entered with."""
+    """A promise, and the bytes of the stack at which its routine stores, by the S with which it is entered."""
 
     def __init__(self, promise):
         self.promise = promise
@@ -64,7 +65,7 @@ class Routine:
         self.loops = {it.address: Loop(self, it) for it in promise.within}
 
     def changed(self, s):
-        """Ranges of addresses that may change, no two of which touch."""
+        """Returns ranges of addresses that may change, such that no two of them touch."""
         return merged([*self.promise.changes.ranges, *((a, a) for a in self.stack.get(s, ()))])
 
 
@@ -76,7 +77,7 @@ class Proof(Run):
         self.routines = routines
 
     def proof_of(self, routine, s):
-        """The proof that a routine meets its promise where it is entered with this S."""
+        """Returns the proof that a routine meets its promise if it is entered with this S."""
         self.routine, self.s, self.saying = routine, s, ""
         self.changed = routine.changed(s)
         self.tops = {}
@@ -112,7 +113,7 @@ class Proof(Run):
         return f"-- @{len(self.marks) - 1}\n"
 
     def lines(self, state):
-        """The lines that name facts."""
+        """Returns the lines that name facts."""
         text = ""
         for name, term in state.lines:
             end = self.mark(wanted_by(term) + state.at) if "omega" in term else "\n"
@@ -121,7 +122,7 @@ class Proof(Run):
         return text
 
     def learn(self, state, e, fact, words):
-        """Has the arithmetic know what a fact says in these words."""
+        """Gives the arithmetic what a fact says in these words."""
         for term, part in known_by(e, fact, True, lambda letter: None):
             self.fact(state, term, keys=keys_of(part))
         self.signs(state, e, words)
@@ -134,24 +135,24 @@ class Proof(Run):
                     self.learn(state, each[3], f"({proof} {k} (omega arith))", words.counting(each, k))
 
     def signs(self, state, e, words):
-        """Has the arithmetic know of each byte whose sign is taken which one it has."""
+        """Tells the arithmetic the sign of each byte whose sign is used."""
         for term in signed_in(e, words):
             self.fact(state, f"le_bit 128 {par(term)}")
 
-    # Ways
+    # Paths
 
     def tree(self, state, loops):
-        """From a state to the return, or back to the top of a loop."""
+        """Goes from a state to the return, or back to the top of a loop."""
         while True:
             if any(is_cell(address) for address in state.memory):
                 begin, end = self.cut(state)
                 return f"{begin}{self.tree(state, loops)}{end}"
             it = self.program.instruction_at(state.pc)
             if it is None and (state.pc in SERVICES or state.pc in TAKERS):
-                says = f"goes to the service at ${state.pc:04X} by a jump: what goes back to the caller has to be its own RTS"
+                says = f"goes to the service at ${state.pc:04X} by a jump; it must return to its caller by its own RTS"
                 raise Refusal(0, f"{self.routine.name} {says}")
             if it is None:
-                raise Refusal(0, f"{self.routine.name} goes to ${state.pc:04X}, where no instruction of the source begins")
+                raise Refusal(0, f"{self.routine.name} goes to ${state.pc:04X}, but no instruction of the source begins there")
             self.fuel -= 1
             if self.fuel < 0:
                 raise Refusal(it.line, TOO_LONG)
@@ -183,14 +184,14 @@ class Proof(Run):
     def go_back(self, state, it):
         low, high = state.memory.get(0x101 + state.s), state.memory.get(0x102 + state.s)
         if not isinstance(low, int) or not isinstance(high, int) or state.s > self.s:
-            raise Refusal(it.line, "this RTS goes where is not known")
+            raise Refusal(it.line, "where this RTS returns to is not known")
         state.s += 2
         state.steps += 1
         state.pc = (low + 256 * high + 1) & 0xFFFF
 
     @staticmethod
     def fits(state):
-        """A proof that what was stored are bytes."""
+        """Returns a proof that the stored values are bytes."""
         fits = "tt"
         for _, term in reversed(state.stores):
             fits = f"({'(omega arith)' if isinstance(term, int) else state.arithmetic()}, {fits})"
@@ -198,14 +199,15 @@ class Proof(Run):
 
     @staticmethod
     def small(state, letter):
-        """A proof that a register holds a byte."""
+        """Returns a proof that a register holds a byte."""
         term = state.registers[letter]
         if term == f"{state.origin}.registers.{letter.lower()}":
             return f"{state.whole}.{letter.lower()}"
         return "(omega arith)" if isinstance(term, int) else state.arithmetic()
 
     def only(self, state, keys):
-        """The facts of a state that speak of these bytes and registers, or of such of which those speak; and those of others."""
+        """Returns the facts of a state about these bytes and registers, or about those that such facts mention; and the facts about
+        others."""
         return self.about(state.facts, keys)
 
     def about(self, facts, keys):
@@ -228,11 +230,11 @@ class Proof(Run):
             self.fact(state, term)
 
     def left(self, state):
-        """The keys that wait in a state."""
+        """Returns the keys that wait in a state."""
         return self.routine.promise.keys[len(state.taken) :]
 
     def keep_entered(self, state):
-        """A proof that the state's memory keeps what may not change, where it has no stores on top."""
+        """Returns a proof that the state's memory keeps what may not change, if it has no stores on top."""
         if state.base == "w":
             return "(leaves_all w.memory _)"
         if state.base.startswith("("):
@@ -240,13 +242,13 @@ class Proof(Run):
         return f"(leaves_stores [] w.memory _ {list_of(state.taken)} {state.base} (entered 0 {state.memory_is}) refl refl {state.keep})"
 
     def renew(self, state, memory, link, has, keep):
-        """The state's memory is another one, of which the link tells how it came of that before."""
+        """Gives the state another memory. The link says how it was made from the one before."""
         state.links[memory], state.all_has[memory] = link, has
         state.base, state.memory_is, state.keep = f"(entered 0 {memory})", memory, keep
         state.memory, state.stores, state.steps, state.top = {}, [], 0, None
 
     def cut(self, state):
-        """The memory is taken afresh behind stores: what stands before all that follows, and behind it."""
+        """Begins again with a new memory after stores: returns what comes before all that follows, and what comes after it."""
         if not state.stores:
             return "", ""
         m, equation, has, keep = (self.fresh(letter) for letter in "meqk")
@@ -265,7 +267,7 @@ class Proof(Run):
         return begin + joined, ")"
 
     def joined(self, state, m, link):
-        """A line that says how a memory came of the one before all stores that follow one another, and the link."""
+        """Returns a line that says how a memory was made from the one before all stores in a row, and the link."""
         first = state.links.get(state.memory_is)
         if not isinstance(first, Cut) or first.equation == "refl":
             return "", link
@@ -276,7 +278,7 @@ class Proof(Run):
         return line, Cut(first.before, stores, equation)
 
     def number_at(self, state, address):
-        """A byte, where it was stored as a number."""
+        """Returns a byte, if it was stored as a number."""
         if address in state.memory:
             return state.memory[address] if isinstance(state.memory[address], int) else None
         link = state.links.get(state.memory_is)
@@ -290,7 +292,7 @@ class Proof(Run):
         return None
 
     def pointed(self, state, zero_page, behind):
-        """Where a pointer points, by the numbers that were stored there, or as lines say."""
+        """Returns the address in a pointer, from the numbers that were stored there, or from what lines say."""
         low, high = self.number_at(state, zero_page), self.number_at(state, behind)
         if low is not None and high is not None:
             return low + 256 * high
@@ -301,7 +303,7 @@ class Proof(Run):
         return None
 
     def place(self, state, it):
-        """The address that an instruction computes, and the same without wrap."""
+        """Returns the address that an instruction computes, and the same without wrapping."""
         if it.mode in ("AbsoluteX", "AbsoluteY", "ZeroPageX", "ZeroPageY"):
             at = f"({it.value} + {state.registers[it.mode[-1]]})"
             return f"({at} % {256 if it.mode.startswith('Zero') else 65536})", at
@@ -315,21 +317,21 @@ class Proof(Run):
         return f"(({word} + {y}) % 65536)", str(add(where, y)) if where is not None else f"({word} + {y})"
 
     def range_of(self, it, at):
-        """The range of addresses among which a store is, as `changes` has it."""
+        """Returns the range of addresses that contains a store, as `changes` has it."""
         low, high = span(self.tops, at)
         ranges = [(max(low, first), min(high, last)) for first, last in self.changed if first <= high and low <= last]
         if not ranges:
-            raise Refusal(it.line, f"{it.mnemonic} stores at ${low:04X} or above, and no byte from there on stands behind changes")
+            raise Refusal(it.line, f"{it.mnemonic} stores at ${low:04X} or above, but `changes` lists no byte from there on")
         found = next((it for it in ranges if it[0] == low), max(ranges, key=lambda it: it[1] - it[0]))
         if self.program_has_code(*found):
-            raise Refusal(it.line, f"{it.mnemonic} by an index may store where its own code stands")
+            raise Refusal(it.line, f"{it.mnemonic} with an index may overwrite code")
         return found
 
     def program_has_code(self, low, high):
         return any(it.is_instruction and it.address <= high and low < it.address + it.length for it in self.program.statements)
 
     def reach(self, state, it, loops):
-        """An instruction whose address is not known, by a rule for all of its kind."""
+        """Handles an instruction whose address is not known, by a rule for all of its kind."""
         begin, end = self.cut(state)
         computed, at = self.place(state, it)
         here, row = here_of(state), row_of(it)
@@ -344,7 +346,7 @@ class Proof(Run):
         return f"{begin}{text}({self.tree(state, loops)}){closing}{end}"
 
     def no_wrap(self, state, it):
-        return self.mark(f"line {it.line}: {it.mnemonic} wraps in page 0 or lies at $C000 or above" + state.at)
+        return self.mark(f"line {it.line}: {it.mnemonic} may wrap in page 0 or reach $C000 or above" + state.at)
 
     def load_reached(self, state, it, at, here, row, common):
         begin, low = self.lines(state), state.arithmetic()
@@ -361,11 +363,11 @@ class Proof(Run):
         low, high = self.range_of(it, at)
         range_facts = []
         begin = self.lines(state)
-        below, above = f"below ${low:04X}, where that begins", f"above ${high:04X}, where that ends"
+        below, above = f"below its start at ${low:04X}", f"above its end at ${high:04X}"
         for says, beside in ((f"{low} ≤ {at}", below), (f"{at} ≤ {high}", above)):
             name = self.fresh("r")
             begin += f"let {name} : {says} = {state.arithmetic()} in "
-            begin += self.mark(f"line {it.line}: {it.mnemonic} may store beside what stands behind changes, {beside}" + state.at)
+            begin += self.mark(f"line {it.line}: {it.mnemonic} may store outside a range of `changes`, {beside}" + state.at)
             range_facts.append(name)
         state.facts += range_facts
         first, last = range_facts
@@ -393,19 +395,19 @@ class Proof(Run):
         return begin
 
     def act(self, state, it):
-        """What an instruction does, with the byte that it reaches."""
+        """Does what an instruction does, with the byte that it reads."""
         state.pc = it.address + it.length
         getattr(self, "do_" + it.mnemonic.lower())(state, it)
         self.reached = None
 
     def fork(self, state, it, loops):
-        """Both ways of a branch."""
+        """Handles both paths of a branch."""
         if state.depth >= MOST_BRANCHES:
             raise Refusal(it.line, TOO_MANY)
         letter, is_set = BRANCHES[it.mnemonic]
         flag = state.flags[letter]
         if flag[0] == "opaque":
-            raise Refusal(it.line, f"what {letter} is here can't be proved")
+            raise Refusal(it.line, f"the value of {letter} here cannot be proved")
         self.flag_number(state, letter)
         begin = self.lines(state)
         ways = [self.way(state, it, letter, flag, value, is_set, loops) for value in (True, False)]
@@ -414,7 +416,7 @@ class Proof(Run):
     def way(self, state, it, letter, flag, value, is_set, loops):
         one, h = state.copy(), self.fresh("h")
         one.depth += 1
-        one.path.append(f"{it.mnemonic} in line {it.line} " + ("branches" if value == is_set else "goes on"))
+        one.path.append(f"{it.mnemonic} in line {it.line} " + ("branches" if value == is_set else "does not branch"))
         if flag[0] in ("unknown", "overflow"):
             one.lines.append((h + "f : one_if " + par(flag[1]) + f" ≡ {int(value)}", f"ap (λ b. one_if b) {h}"))
             one.facts.append(h + "f")
@@ -433,7 +435,7 @@ class Proof(Run):
         return f"(λ {h}.\n{self.tree(one, loops)})"
 
     def never(self, state, why):
-        """A way on which the routine can't keep its promise: it is none, as what is known there contradicts itself."""
+        """Handles a path on which the routine cannot keep its promise: it cannot occur, because what is known there contradicts itself."""
         last, opposite = state.turned or (None, None)
         if last not in state.facts:
             raise why
@@ -441,10 +443,11 @@ class Proof(Run):
         proof = f"let {name} : {opposite} = omega ({', '.join(['arith', *others])}) in {self.mark(str(why) + state.at)}"
         return f"{self.lines(state)}{proof}(absurd (omega (arith, {name}, {last})))"
 
-    # Ends of ways
+    # Ends of paths
 
     def wrap(self, loops, turn, term):
-        """What holds where a way ends: it goes back to the top of the loop of this number from within, or on to the return."""
+        """Returns what holds at the end of a path: it goes back to the top of the loop with this number from within, or on to the
+        return."""
         count = len(loops) if turn is None else turn
         term = term if turn is None else f"(inl {term})"
         for _ in range(count):
@@ -465,9 +468,9 @@ class Proof(Run):
         return f"record {{\n{registers}ram = {ram};\n}}"
 
     def leaf(self, state, it, loops):
-        """The return."""
+        """Handles the return."""
         if self.left(state):
-            return self.never(state, Refusal(it.line, f"keys are left where it returns: {spelt(self.left(state))}"))
+            return self.never(state, Refusal(it.line, f"it does not take all typed keys; these are left: {spelt(self.left(state))}"))
         before, behind = self.settled(state, self.routine.promise.promised)
         for loop, old in loops:
             state.loop = old
@@ -490,7 +493,7 @@ class Proof(Run):
         return begin + f"({state.steps}, (_, refl, {end})) {self.mark(f'line {it.line}: the return' + state.at)}{behind}"
 
     def settled(self, state, clauses):
-        """The memory is taken afresh where clauses speak of bytes at addresses that are not numbers."""
+        """Begins again with a new memory if clauses are about bytes at addresses that are not numbers."""
         if any(is_of_arrays(clause.expr, state) for clause in clauses):
             return self.cut(state)
         return "", ""
@@ -505,7 +508,7 @@ class Proof(Run):
                 proof = "refl"
             elif state.registers[register] == f"{state.origin}.registers.{register.lower()}":
                 proof = f"omega ({', '.join(['arith', *self.only(state, {register})])})"
-            mark = self.mark(f"{register} does not stand behind changes, and may be another" + state.at)
+            mark = self.mark(f"{register} may change but is not listed in `changes`" + state.at)
             body += f"keep_{register.lower()} = {proof}; {mark}"
         return body
 
@@ -532,11 +535,11 @@ class Proof(Run):
         return self.enter_loop(state, loop, loops)
 
     def turn(self, state, loop, loops, turn, old):
-        """Back at the top of a loop that is gone through."""
+        """Handles a path that is back at the top of a loop."""
         before, behind = self.settled(state, loop.invariants)
         state.loop = old
-        invariant = self.invariant(state, loop, "when the loop comes back to its label")
-        says = f"the way back to {loop.within.label} wants a line decreases"
+        invariant = self.invariant(state, loop, "when the loop returns to its label")
+        says = f"the path back to {loop.within.label} needs a decreases line"
         if loop.measure:
             says = f"line {loop.measure.line}: decreases {loop.measure.text}"
         less = f"less = omega ({state.facts_listed}); {self.mark(says + state.at)}"
@@ -546,7 +549,7 @@ class Proof(Run):
 
     def enter_loop(self, state, loop, loops):
         before, behind = self.settled(state, loop.invariants)
-        invariant = self.invariant(state, loop, "where the loop is entered")
+        invariant = self.invariant(state, loop, "when the loop is entered")
         begin = self.lines(state)
         here = here_of(state)
         v, inv = self.fresh("v"), self.fresh("i")
@@ -563,7 +566,7 @@ class Proof(Run):
         )
 
     def state_known_by(self, state, base, world, pc, fact, loop):
-        """A state of which is known what stands at the entry, and these clauses, by a record's fields."""
+        """Returns a state in which the facts at the entry and these clauses are known, from the fields of a record."""
         made = State(base, world, pc, state.s)
         made.path, made.ground, made.keep, made.whole = list(state.path), state.ground, f"{fact}.rest", f"{fact}.bytes"
         made.taken = list(state.taken)
@@ -601,7 +604,7 @@ class Proof(Run):
         self.prepare(state, other.promise.wanted)
         there, body = self.with_memory(state, f"{here}.memory"), ""
         for k, clause in enumerate(other.promise.wanted, 1):
-            says = f"line {it.line}: the call of {other.name} wants {clause.text}"
+            says = f"line {it.line}: the call of {other.name} needs {clause.text}"
             body += f"r{k} = {self.wanted(there, clause, other, says)}"
         body += self.waiting(state, it, other, here)
         bytes_ = self.only_bytes(state)
@@ -612,7 +615,7 @@ class Proof(Run):
         before = self.keeps(state, f"(entered 0 {here}.memory)")
         inner = list_of(f"({first}, {last})" for first, last in changed)
         name, taken = self.routine.name, f"{list_of(state.taken)} {list_of(other.promise.keys)}"
-        keep = f"leaves_behind w.memory {here}.memory {name}_ranges {inner} {taken} {u} {after}.rest refl ({before})"
+        keep = f"leaves_further w.memory {here}.memory {name}_ranges {inner} {taken} {u} {after}.rest refl ({before})"
         last = self.state_behind(there, other, it, u, after, changed)
         last.keep = kept
         last.lines.insert(0, (kept, f"leaves_as w.memory {name}_changed {list_of(last.taken)} {u} ({keep})"))
@@ -626,18 +629,18 @@ class Proof(Run):
         )
 
     def waiting(self, state, it, other, here):
-        """The proof that the keys wait which a call takes."""
+        """Returns the proof that the keys wait which a call takes."""
         keys, left = other.promise.keys, self.left(state)
         if not keys:
             return ""
         if left[: len(keys)] != keys:
-            raise Refusal(it.line, f"{other.name} takes {spelt(keys)}, and {spelt(left) if left else 'no key'} waits here" + state.at)
+            raise Refusal(it.line, f"{other.name} takes {spelt(keys)}, but {spelt(left) if left else 'no key'} waits here" + state.at)
         lists = " ".join(list_of(them) for them in (state.taken, keys, left[len(keys) :]))
         before = self.keeps(state, f"(entered 0 {here}.memory)")
         return f"waits = still {lists} w.memory _ (entered 0 {here}.memory) before.waits ({before}); "
 
     def take_key(self, state, it, loops):
-        """A call of a service that takes keys."""
+        """Handles a call of a service that takes keys."""
         try:
             service = taker_of(it.value, self.left(state), self.routine.promise.keys, it.line)
         except Unproved:
@@ -647,7 +650,7 @@ class Proof(Run):
         return self.call(state, it, service, loops)
 
     def with_memory(self, state, memory):
-        """A state whose memory, with its stores, is one that this term names."""
+        """Returns a state whose memory, with its stores, is the one that this term names."""
         if not state.stores:
             return state
         made, has = state.copy(), self.fresh("q")
@@ -660,14 +663,14 @@ class Proof(Run):
         return made
 
     def home(self, state, s):
-        """The proof that a JSR has left its return address on the stack, behind which memory is taken afresh."""
+        """Returns the proof that a JSR has left its return address on the stack. After it, a new memory begins."""
         link = state.links[state.memory_is]
         stores = list_of(f"({a}, {term})" for a, term in link.stores)
         read = f"stores_read {stores} {link.before} {state.memory_is} {link.equation} {state.all_has[link.before]}"
         return f"(ap₂ (λ l h. (l + 256 * h + 1) % 65536) ({read} {0x101 + s}) ({read} {0x102 + s}))"
 
     def wanted(self, state, clause, other, says):
-        """The proof of what a call wants."""
+        """Returns the proof of what a call requires."""
         if isinstance(other, Routine):
             return self.goal(state, clause, says)
         StateWords(self, state).says(clause.expr)
@@ -677,14 +680,14 @@ class Proof(Run):
         return text
 
     def may_call(self, it, other):
-        """Refuses a call that may change what does not stand behind changes."""
+        """Refuses a call that may change something that `changes` does not list."""
         for first, last in other.changes.ranges:
             if not any(low <= first and last <= high for low, high in self.changed):
                 where = f"${first:02X}" + (f"..${last:02X}" if last > first else "")
-                raise Refusal(it.line, f"{other.name} may change {where}, which does not stand behind changes")
+                raise Refusal(it.line, f"{other.name} may change {where}, which is not listed in `changes`")
 
     def state_behind(self, state, other, it, u, after, changed):
-        """Behind a call: what the other routine promises, of the state before it."""
+        """Returns the state after a call: what the other routine promises, for the state before it."""
         made = State(u, f"(enter {it.address + 3} {state.s + 2} {u})", it.address + 3, state.s + 2)
         made.path, made.depth, made.ground, made.loop = list(state.path), state.depth, state.ground, state.loop
         made.turned = state.turned
@@ -710,8 +713,8 @@ class Proof(Run):
 
     @staticmethod
     def as_numbers(state, made, other):
-        """Has registers and bytes be numbers behind a service where they are known; what its rule wants of a world that is written
-        so, nothing where none is known."""
+        """Makes registers and bytes numbers after a service, if they are known. Returns what its rule needs for a world that is written
+        so, or nothing if none is known."""
         known = {it: (state.registers[it], f"keep_{it.lower()}") for it in "AXY" if it not in other.promise.changes.registers}
         known = {letter: it for letter, it in {**known, **other.known}.items() if isinstance(it[0], int)}
         if not known and not other.stores:
@@ -731,12 +734,12 @@ class Proof(Run):
     # Goals
 
     def goal(self, state, clause, says):
-        """The proof of a clause, up to the end of its line."""
+        """Returns the proof of a clause, up to the end of its line."""
         self.saying = says + state.at
         return f"{self.proved(state, clause.expr, True)}; {self.mark(says + state.at)}"
 
     def proved(self, state, e, holds):
-        """A proof that a fact holds of a state, or that it does not."""
+        """Returns a proof that a fact holds in a state, or that it does not."""
         words = StateWords(self, state)
         if e[0] == "pair" and not (is_fact(e[2]) or is_fact(e[3])):
             simple = self.compared(state, e, holds)
@@ -750,7 +753,7 @@ class Proof(Run):
         return self.by_cases(state, e, holds, list(state.facts), words, {})
 
     def by_cases(self, state, e, holds, facts, words, decided):
-        """A proof of a fact about bytes at addresses that are not numbers: each was stored last, or is an older one."""
+        """Returns a proof of a fact about bytes at addresses that are not numbers: each was stored last, or is an older one."""
         lets, more, cases = self.found(state, bytes_in(e, words), facts, decided)
         if not cases or len(decided) >= MOST_DECIDED:
             return lets + self.proved_by(state, e, holds, more, words)
@@ -762,8 +765,8 @@ class Proof(Run):
         return f"(one_of_two ({fact})\n{ways})"
 
     def found(self, state, reads, facts, decided=None):
-        """The facts that a goal about bytes at addresses that are not numbers wants, named; their names with the others; and a byte of
-        which it is not decided whether it was stored last, with the fact that tells both."""
+        """Returns the named facts that a goal about bytes at addresses that are not numbers needs; their names with the others; and a byte
+        for which it is not decided whether it was stored last, with the fact that has both cases."""
         if not reads and not state.reads:
             return "", facts, None
         there = state.copy()
@@ -775,21 +778,21 @@ class Proof(Run):
             if term + says in known:
                 continue
             names.append(self.fresh("g"))
-            end = self.mark("an address lies elsewhere than is thought" + state.at) if "omega" in term else "\n"
+            end = self.mark("an address differs from the expected one" + state.at) if "omega" in term else "\n"
             text += f"let {names[-1]}{' : ' + says if says else ''} = {term} in {end}"
         return text, names, finder.open
 
     def compared(self, state, e, holds):
-        """A comparison that is known by what it compares alone."""
+        """Returns the proof of a comparison that follows from what it compares alone."""
         x, y = StateWords(self, state).sides(e[2], e[3])
         if holds and e[1] == "Equal" and without_marks(x) == without_marks(y):
             return "refl"
         return self.by_all_bytes(state, x, y) if holds and e[1] == "Equal" and not state.path else None
 
     def each_proved(self, state, e, holds, facts, words):
-        """A proof of what holds of each number below another."""
+        """Returns a proof of what holds for each number below another."""
         if not holds:
-            raise Refusal(0, "that for all does not hold of each can't be proved")
+            raise Refusal(0, "it cannot be proved that a `for all` is false")
         if is_unrolled(e, state):
             return self.unrolled(state, e, facts, words)
         i, h = self.fresh("i"), self.fresh("h")
@@ -799,7 +802,7 @@ class Proof(Run):
         return f"(λ {i} {h}.\n{self.by_cases(state, e[3], True, [*facts, h], there, {})})"
 
     def unrolled(self, state, e, facts, words):
-        """One proof for each number."""
+        """Returns one proof for each number."""
         text, known = "(none_below _)", len(state.facts)
         for k in range(e[2][1]):
             words.counting(e, k).says(e[3])
@@ -811,7 +814,7 @@ class Proof(Run):
         return text
 
     def by_all_bytes(self, state, x, y):
-        """An equation about bits of one byte is tried for all 256."""
+        """Tries an equation about bits of one byte for all 256 values."""
         unknown = unknown_in(x + " " + y)
         if "by_digits" not in x + y or len(unknown) != 1:
             return None
@@ -848,7 +851,7 @@ class Proof(Run):
             second = one if kind == "and" else other
             return f"({self.proved_by(state, by, holds, facts, words)}, {self.proved_by(state, second, holds, facts, words)})"
         if kind in ("and", "or") and has_each(e):
-            raise Refusal(0, "for all can't be proved as one of two")
+            raise Refusal(0, "a `for all` joined by `or` cannot be proved")
         if kind in ("and", "or"):
             return f"(grind ({', '.join(['arith', 'nat_tests', *facts])}))"
         if kind == "not":
@@ -861,7 +864,7 @@ class Proof(Run):
         return f"({first}, {self.supposed(state, by, False, other, holds, facts, words)})"
 
     def supposed(self, state, by, by_holds, e, holds, facts, words):
-        """A proof of a fact where another holds, or does not."""
+        """Returns a proof of a fact if another holds, or if it does not."""
         h = self.fresh("p")
         if by[0] == "held" and state.flags[FLAGS[by[1]]][0] == "known":
             value = state.flags[FLAGS[by[1]]][1]
@@ -882,12 +885,12 @@ class Proof(Run):
         if flag[0] in ("unknown", "overflow"):
             return f"(flag_{'yes' if holds else 'no'} {par(flag[1])} {by})"
         if flag[0] == "opaque":
-            raise Refusal(0, f"what {letter} is can't be proved")
+            raise Refusal(0, f"the value of {letter} cannot be proved")
         test, m, n = self.test(flag)
         return f"({'yes' if holds else 'no'}_{test} {par(m)} {par(n)} {by})"
 
     def there_proved(self, state, e, holds, facts, words):
-        """A proof of what was so at a label."""
+        """Returns a proof of what held at a label."""
         if e[2][0] == "held":
             by = f"(omega ({', '.join(['arith', *facts])}))"
             return f"(flag_{'yes' if holds else 'no'} {words.at_label(e[1]).flag(e[2][1])} {by})"
@@ -902,7 +905,7 @@ class Proof(Run):
     # Products
 
     def prepare(self, state, clauses):
-        """Facts about the products that clauses speak of."""
+        """Adds facts about the products in clauses."""
         for clause in clauses:
             for letter in letters_in(clause.expr):
                 self.flag_number(state, letter)
@@ -934,7 +937,7 @@ class Proof(Run):
             self.fact(state, f"fits_word {par(s)} {par(t)} {state.arithmetic()} {state.arithmetic()}")
 
     def product_moves(self, state, a, b):
-        """A factor that is one less, or one more, than at the top of the loop."""
+        """Handles a factor that is one less, or one more, than at the top of the loop."""
         now, before = self.term(state, a), self.term(state.loop, a)
         if now is None or now == before:
             return
@@ -948,7 +951,7 @@ class Proof(Run):
 
 
 class BehindWords(Words):
-    """Terms of an expression behind a call, whose entry is a state."""
+    """Makes terms of an expression after a call, whose entry is a state."""
 
     def __init__(self, new, before):
         super().__init__(new, before.new)
@@ -961,37 +964,37 @@ class BehindWords(Words):
 
 
 def wanted_by(term):
-    """What a fact wants that the arithmetic is to find."""
+    """Returns what a fact needs that the arithmetic must find."""
     rule, _, rest = term.partition(" ")
     factor = in_words(rest.split(" (")[0].strip("()"))
     wants = {"product_down": f"{factor} is not 0", "product_up": f"{factor} is below 255"}.get(rule)
-    return f"that {wants} is wanted here, and no line says it," if wants else "bytes are wanted below 256"
+    return f"nothing says that {wants}, which is needed here" if wants else "bytes must be below 256"
 
 
 def world_with(world, registers, memory):
-    """A world with these registers, and with this memory if there is one."""
+    """Returns a world with these registers, and with this memory if there is one."""
     fields = "".join(f"{letter.lower()} = {term}; " for letter, term in sorted(registers.items()))
     memory = f" memory = {memory};" if memory else ""
     return f"record {world} {{ registers = record {world}.registers {{ {fields}}};{memory} }}"
 
 
 def here_of(state):
-    """The world that a state is, as a term."""
+    """Returns the world of a state, as a term."""
     return f"(stepped code {state.world} {state.steps})" if state.steps else state.world
 
 
 def coming_to(state):
-    """What stands before a rule that begins at a state."""
+    """Returns what precedes a rule that begins at a state."""
     return f"onto code {state.world} {here_of(state)} {state.steps} _ refl (" if state.steps else ""
 
 
 def is_cell(address):
-    """Whether an address lies on a text page, where what is stored is read back by a rule, and not by computing."""
+    """Returns whether an address is on a text page. What is stored there is read back by a rule, not by computing."""
     return 0x400 <= address < 0xC00
 
 
 def merged(ranges):
-    """The same addresses, as ranges no two of which touch."""
+    """Returns the same addresses as ranges, such that no two of them touch."""
     made = []
     for first, last in sorted(ranges):
         if made and first <= made[-1][1] + 1:
@@ -1005,18 +1008,18 @@ def is_in(ranges, address):
     return any(first <= address <= last for first, last in ranges)
 
 
-# What does not hold where a test of two numbers came out so.
+# What does not hold if a test of two numbers has this result.
 OPPOSITE = {("eq", True): "{} ≢ {}", ("eq", False): "{} ≡ {}", ("le", True): "{1} < {0}", ("le", False): "{} ≤ {}"}
-# Opcodes of modes whose address may not be known: those of A's operations lie as far apart as these from the first.
+# Opcodes of addressing modes whose address may be unknown. Those of each operation on A have the same distances as these.
 OPERATIONS = {"ORA": 0x00, "AND": 0x20, "EOR": 0x40, "ADC": 0x60, "STA": 0x80, "LDA": 0xA0, "CMP": 0xC0, "SBC": 0xE0}
 OPERATION_MODES = {"ZeroPageX": (0x15, 4), "AbsoluteX": (0x1D, 4), "AbsoluteY": (0x19, 4), "IndexedIndirect": (0x01, 6), "IndirectIndexed": (0x11, 5)}
 CHANGING = {"ASL": 0x00, "ROL": 0x20, "LSR": 0x40, "ROR": 0x60, "DEC": 0xC0, "INC": 0xE0}
 CHANGING_MODES = {"ZeroPageX": (0x16, 6), "AbsoluteX": (0x1E, 7)}
 OTHER_ROWS = {
     ("LDX", "ZeroPageY"): ("fixed", 0xB6, 4),
-    ("LDX", "AbsoluteY"): ("paged", 0xBE, 4),
+    ("LDX", "AbsoluteY"): ("page_crossing_row", 0xBE, 4),
     ("LDY", "ZeroPageX"): ("fixed", 0xB4, 4),
-    ("LDY", "AbsoluteX"): ("paged", 0xBC, 4),
+    ("LDY", "AbsoluteX"): ("page_crossing_row", 0xBC, 4),
     ("STX", "ZeroPageY"): ("fixed", 0x96, 4),
     ("STY", "ZeroPageX"): ("fixed", 0x94, 4),
 }
@@ -1024,11 +1027,11 @@ PAGED = ("AbsoluteX", "AbsoluteY", "IndirectIndexed")
 
 
 def row_of(it):
-    """The row of an instruction in the table of opcodes."""
+    """Returns the row of an instruction in the table of opcodes."""
     if it.mnemonic in OPERATIONS:
         opcode, cycles = OPERATION_MODES[it.mode]
         opcode += OPERATIONS[it.mnemonic]
-        word = "paged" if it.mode in PAGED and it.mnemonic != "STA" else "fixed"
+        word = "page_crossing_row" if it.mode in PAGED and it.mnemonic != "STA" else "fixed"
         cycles += it.mnemonic == "STA" and it.mode in PAGED
     elif it.mnemonic in CHANGING:
         opcode, cycles = CHANGING_MODES[it.mode]
@@ -1039,7 +1042,7 @@ def row_of(it):
 
 
 def parts_of(e):
-    """An expression and all that it is made of."""
+    """Returns an expression and all of its parts."""
     yield e
     for part in e[1:]:
         if isinstance(part, tuple):
@@ -1055,13 +1058,13 @@ def has_each(e):
 
 
 def is_unrolled(e, state):
-    """Whether each number is gone through, as there are few and no byte was stored at an address that is not known."""
+    """Returns whether each number is tried, because there are few and no byte was stored at an unknown address."""
     is_few = e[2][0] == "number" and e[2][1] <= MOST_UNROLLED
     return is_few and all(isinstance(link, Cut) for link in state.links.values()) and not state.universals
 
 
 def is_of_arrays(e, state):
-    """Whether a fact speaks of bytes at addresses that are not numbers, when each few numbers are gone through."""
+    """Returns whether a fact is about bytes at addresses that are not numbers, if small counts are tried number by number."""
     if e[0] == "each" and not is_unrolled(e, state):
         return any(it[0] in ("of", "each") for it in parts_of(e[3]))
     if e[0] == "of" and e[1] in ("Byte", "Word") and any(it[0] in ("held", "of") for it in parts_of(e[2])):
@@ -1070,7 +1073,7 @@ def is_of_arrays(e, state):
 
 
 def bytes_in(e, words):
-    """The bytes at addresses that are not numbers of which a fact speaks, but for those where something is counted."""
+    """Returns the bytes at addresses that are not numbers in a fact, except within counted expressions."""
     if e[0] == "each":
         return bytes_in(e[2], words)
     if e[0] == "old":
@@ -1089,7 +1092,7 @@ def bytes_in(e, words):
 
 
 def universals_in(e, fact):
-    """What a fact says of each number below another."""
+    """Returns what a fact says about each number below another."""
     if e[0] == "each":
         yield fact, e
     elif e[0] == "choice" and shape(e) == "and":
@@ -1098,7 +1101,7 @@ def universals_in(e, fact):
 
 
 def tops_in(e, words):
-    """What registers and bytes are not above, as comparisons with numbers say."""
+    """Returns upper bounds of registers and bytes, from comparisons with numbers."""
     if e[0] == "choice" and shape(e) == "and":
         return tops_in(e[1], words) | tops_in(e[2], words)
     if e[0] != "pair" or e[1] not in ("Less", "AtMost", "Equal") or e[3][0] != "number" or constant(e) is not None:
@@ -1110,12 +1113,13 @@ def tops_in(e, words):
 
 
 def without_marks(text):
-    """A term without blanks and parentheses."""
+    """Returns a term without blanks and parentheses."""
     return re.sub(r"[\s()]", "", text)
 
 
 def known_by(e, fact, holds, flag_of):
-    """Terms by which the arithmetic knows that a fact holds, or not, with what they say; a flag by what it is in a state."""
+    """Returns terms by which the arithmetic knows that a fact holds, or that it does not, with what they say; for a flag, what it is in a
+    state."""
     if e[0] == "held":
         flag = flag_of(FLAGS[e[1]])
         if flag is None or flag[0] in ("unknown", "overflow"):
@@ -1139,7 +1143,7 @@ def known_by(e, fact, holds, flag_of):
 
 
 def letters_in(e):
-    """The flags that an expression names, behind the routine."""
+    """Returns the flags that an expression names, after the routine."""
     if e[0] in ("bound", "at"):
         return []
     if e[0] == "held":
@@ -1150,7 +1154,7 @@ def letters_in(e):
 
 
 def products_in(e):
-    """Products of numbers that are not written, but for those where something is counted."""
+    """Returns products of numbers that are not literals, except within counted expressions."""
     if e[0] in ("each", "sum"):
         return
     if e[0] == "pair" and e[1] == "Times" and e[2][0] != "number" and e[3][0] != "number":
@@ -1161,14 +1165,14 @@ def products_in(e):
 
 
 def keys_of(e):
-    """The registers and bytes of which an expression speaks; None where it speaks of others."""
+    """Returns the registers and bytes in an expression, or None if it has others."""
     if any(it[0] == "of" and it[2][0] != "number" or it[0] == "held" and it[1] not in ("A", "X", "Y") for it in parts_of(e)):
         return None
     return cells_in(e) | {it[1] for it in parts_of(e) if it[0] == "held"}
 
 
 def cell_of(e):
-    """The address of a byte that is named."""
+    """Returns the address of a named byte."""
     if e[0] == "old":
         return cell_of(e[1])
     return e[2][1] if e[0] == "of" and e[1] == "Byte" and e[2][0] == "number" else None
@@ -1181,5 +1185,5 @@ def is_byte(e):
 
 
 def unknown_in(text):
-    """The bytes and registers that terms speak of."""
+    """Returns the bytes and registers in terms."""
     return set(re.findall(r"ram_byte \w+\.memory \d+|\w+\.registers\.[axy]\b", text))

@@ -1,8 +1,12 @@
 """Why a source, or what it promises, is not judged."""
 
+# What else can be done with a promise that cannot be proved, or with a source that has errors.
+TRY_IT = "try it with a2lab promise"
+SEE_CHECK = "run ./a2lab check for details"
+
 
 class Refusal(Exception):
-    """Where, from 1, column 0 where it is the whole line; and why, as a text that is told."""
+    """The error in a line: its line and column, from 1, with column 0 for the whole line; and its message."""
 
     def __init__(self, line, says, column=0):
         super().__init__(says)

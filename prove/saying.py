@@ -1,5 +1,6 @@
-"""What an expression says of two worlds, as the prover reads it: the very terms that `view` and `claim` of
-crates/a2_promise_rules/proofs/Saying.antt compute, and of which expressions they speak."""
+"""What an expression says about two worlds, as the prover reads it: exactly the terms that `view` and `claim` of
+crates/a2_promise_rules/proofs/Saying.antt compute, and which expressions they cover.
+"""
 
 import copy
 
@@ -11,15 +12,15 @@ COMPARED = {"Equal": ("≡", "≢"), "Less": ("<", "≤"), "AtMost": ("≤", "<"
 REGISTERS = ("A", "X", "Y")
 FLAGS = {"Carry": "C", "Zero": "Z", "Negative": "N", "Overflow": "V"}
 OTHERS = {"Cycles": "cycles", "Steps": "steps", "Decimal": "D", "Interrupt": "I"}
-BY_IF = "a number by if can't be proved: write if P then A = E else A = E"
+BY_IF = "a number made by `if` cannot be proved; write if P then A = E else A = E"
 BYTES = {"BitAnd": "◌&&◌", "BitOr": "◌||◌", "BitXor": "differ"}
 OPERATORS = {"Plus": "+", "Times": "*", "Over": "/"}
-# How many numbers a sum may have.
+# The largest number of terms of a sum.
 MOST_SUMMED = 64
 
 
 def is_minus(e):
-    """Whether a number may be below 0."""
+    """Returns whether a number may be below 0."""
     if e[0] in ("old", "at"):
         return is_minus(e[-1])
     if e[0] == "of":
@@ -28,14 +29,14 @@ def is_minus(e):
 
 
 def is_fact(e):
-    """Whether an expression says that something holds, and is no flag."""
+    """Returns whether an expression says that something holds, and is not a flag."""
     if e[0] in ("old", "at"):
         return is_fact(e[-1])
     return e[0] in ("choice", "each") or e[0] == "pair" and e[1] in COMPARED
 
 
 def is_flag(e):
-    """Whether an expression says that something holds."""
+    """Returns whether an expression is a flag."""
     return is_fact(e) or e[0] == "held" and e[1] not in REGISTERS or e[0] in ("old", "at") and is_flag(e[-1])
 
 
@@ -44,7 +45,7 @@ def constant(e):
 
 
 def shape(e):
-    """What a choice is: and, or, not, if, or one of two."""
+    """Returns what a choice is: and, or, not, if, or one of two."""
     return {
         (None, False): "and",
         (True, None): "or",
@@ -57,7 +58,7 @@ def shape(e):
 
 
 def most(e, tops=()):
-    """A number that an expression is not above, by what each name is not above."""
+    """Returns an upper bound of an expression, from the upper bounds of the names."""
     kind = e[0]
     if kind == "number":
         return e[1]
@@ -76,19 +77,19 @@ def most(e, tops=()):
 
 
 def within(e, tops):
-    """What each name is not above within what is counted."""
+    """Returns the upper bound of each name within a counted expression."""
     return (*tops[: e[1]], max(most(e[2], tops) - 1, 0))
 
 
 def why_no_number(e, tops=()):
-    """Why the rules do not speak of a number; None if they do."""
+    """Returns why the rules do not cover a number, or None if they do."""
     kind = e[0]
     if kind in ("number", "bound"):
         return None
     if kind == "held":
         if e[1] in REGISTERS or e[1] in FLAGS:
             return None
-        return f"{OTHERS.get(e[1], e[1])} can't be proved: A, X, Y and the flags C, Z, N, V can"
+        return f"{OTHERS.get(e[1], e[1])} cannot be proved; A, X, Y and the flags C, Z, N, V can"
     if kind in ("old", "at"):
         return why_no_number(e[-1], tops)
     if kind == "of":
@@ -101,7 +102,7 @@ def why_no_number(e, tops=()):
 
 
 def least(e):
-    """A number that an expression is not below, as numbers that are written show."""
+    """Returns a lower bound of an expression, from numbers that are written in it."""
     if e[0] == "number":
         return e[1]
     if e[0] == "old":
@@ -110,7 +111,7 @@ def least(e):
 
 
 def is_never_below(e, tops):
-    """Whether a difference is never below 0, as numbers that are written show."""
+    """Returns whether a difference is never below 0, from numbers that are written in it."""
     if e[0] == "old":
         return is_never_below(e[1], tops)
     if e[:2] == ("pair", "Minus"):
@@ -122,48 +123,48 @@ def why_no_place(e, tops):
     if e[1] == "Abs":
         return None
     if e[1] == "Signed":
-        return "signed is proved of bytes only" if is_minus(e[2]) or most(e[2], tops) > 255 else None
+        return "`signed` can be proved only for bytes" if is_minus(e[2]) or most(e[2], tops) > 255 else None
     if is_minus(e[2]) and (e[1] == "Word" or not is_never_below(e[2], tops)):
-        return "an address that is a difference can be proved only of a byte, and where the numbers show that it is never below 0"
+        return "an address with a minus can be proved only for a byte, and only if the numbers show that it is never below 0"
     if most(e[2], tops) >= (RAM_END if e[1] == "Byte" else RAM_END - 1):
-        return "this address may lie at $C000 or above: only bytes of RAM can be proved"
+        return "this address may be at $C000 or above; only bytes of RAM can be proved"
     return None
 
 
 def why_not_joined(e, tops):
     _, op, x, y = e
     if op in COMPARED:
-        return "a comparison can't be proved as a number"
+        return "a comparison cannot be proved as a number"
     if op == "Bit" and not (x[0] == "number" and x[1] < 16):
-        return "a bit is proved only of a place that is written, 0 to 15"
+        return "`bit` can be proved only with a bit number from 0 to 15 in the source"
     if op in ("Over", "Modulo") and not (y[0] == "number" and y[1] > 0):
-        return "a quotient is proved only by a number that is written, and above 0"
+        return "a division can be proved only by a number above 0 in the source"
     if op in ("Times", "Over", "Min", "Max", "Bit", *BYTES) and (is_minus(x) or op != "Over" and is_minus(y)):
-        return "a difference may stand in a sum, before % and at a comparison: elsewhere it can't be proved"
+        return "a difference can be proved only in a sum, before `%` or in a comparison"
     if op in BYTES and (most(x, tops) > 255 or most(y, tops) > 255):
-        return "bits are proved of bytes only"
+        return "bit operations can be proved only for bytes"
     if op == "Bit" and most(y, tops) > 65535:
-        return "a bit is proved of a byte or a word"
+        return "`bit` can be proved only of a byte or a word"
     if op in ("Plus", "Minus", "Times") and most(e, tops) >= 2**63:
-        return "this number may be too great"
+        return "this number may be too large"
     return None
 
 
 def why_no_sum(e, tops):
     if e[2][0] != "number" or e[2][1] > MOST_SUMMED:
-        return f"a sum is proved only of so many as a number says, at most {MOST_SUMMED}"
+        return f"a sum can be proved only with a number as its limit, at most {MOST_SUMMED}"
     if is_minus(e[3]):
-        return "differences can't be summed"
+        return "a sum of differences cannot be proved"
     return why_no_number(e[3], within(e, tops))
 
 
 def why_no_fact(e, tops=()):
-    """Why the rules do not speak of a fact; None if they do."""
+    """Returns why the rules do not cover a fact, or None if they do."""
     kind = e[0]
     if kind == "number":
         return None
     if kind == "held":
-        return None if e[1] in FLAGS else f"{OTHERS.get(e[1], e[1])} can't be proved: the flags C, Z, N, V can"
+        return None if e[1] in FLAGS else f"{OTHERS.get(e[1], e[1])} cannot be proved; the flags C, Z, N, V can"
     if kind in ("old", "at"):
         return why_no_fact(e[-1], tops)
     if kind == "pair" and e[1] in COMPARED:
@@ -175,7 +176,7 @@ def why_no_fact(e, tops=()):
     if kind == "choice":
         return why_no_fact(e[1], tops) or why_no_fact(e[2], tops) or why_no_fact(e[3], tops)
     if most(e[2], tops) > 65535:
-        return "this counts more than 65,535"
+        return "this counts to more than 65,535"
     return why_no_number(e[2], tops) or why_no_fact(e[3], within(e, tops))
 
 
@@ -183,13 +184,13 @@ def why_no_fact(e, tops=()):
 
 
 class Words:
-    """Terms of an expression, of the worlds that these names stand for: the one it speaks of, and the one at the entry. `names` are
-    what is counted stands for; bytes at addresses that are not numbers are noted, each with its memory."""
+    """Makes terms of an expression, for the worlds that these names stand for: its own, and the one at the entry. `names` has what counted
+    variables stand for. Bytes at addresses that are not numbers are noted, each with its memory."""
 
     def __init__(self, new, old, names=(), noted=None, labels=None):
         self.new, self.old, self.names = new, old, names
         self.noted = [] if noted is None else noted
-        # the worlds in which the run last came to labels
+        # the worlds in which the run last reached labels
         self.labels = labels or {}
 
     def at_entry(self):
@@ -197,11 +198,11 @@ class Words:
 
     def at_label(self, label):
         if label not in self.labels:
-            raise Refusal(0, f"the run has not come to {label} here, in a loop around this one")
+            raise Refusal(0, f"here the run has not reached {label} in a loop around this one")
         return Words(self.labels[label], self.old, self.names, self.noted, self.labels)
 
     def counting(self, e, term):
-        """The same where what is counted stands for a term."""
+        """Returns the same, with the counted variable standing for a term."""
         made = copy.copy(self)
         made.names = (*self.names[: e[1]], term)
         return made
@@ -298,7 +299,7 @@ class Words:
         return "0"
 
     def sides(self, x, y):
-        """What a comparison compares."""
+        """Returns the two sides of a comparison."""
         if is_minus(x) or is_minus(y):
             return f"({self.up(x)} + {self.down(y)})", f"({self.up(y)} + {self.down(x)})"
         return self.plain(x), self.plain(y)
@@ -306,7 +307,7 @@ class Words:
     # Facts
 
     def says(self, e, holds=True):
-        """That a fact holds, or that it does not."""
+        """Returns that a fact holds, or that it does not."""
         kind = e[0]
         if kind == "number":
             return "Unit {0}" if bool(e[1]) == holds else "⊥"
@@ -365,7 +366,7 @@ def operated(op, x, y):
 
 
 def signed_in(e, words):
-    """The bytes of which an expression takes the sign, as terms."""
+    """Returns the bytes whose sign an expression uses, as terms."""
     if e[0] == "old":
         yield from signed_in(e[1], words.at_entry())
         return
@@ -384,7 +385,7 @@ def signed_in(e, words):
 
 
 def phrase(e):
-    """An expression as a phrase of specs/Phrases.antt of a2_promise."""
+    """Returns an expression as a phrase of specs/Phrases.antt of a2_promise."""
     kind = e[0]
     if kind == "number":
         return f"(number (pos {e[1]}))"

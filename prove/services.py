@@ -1,5 +1,6 @@
-"""The Monitor's services that a routine may call: what they want and leave, as crates/a2_promise_rules/proofs/Calling.antt and Typing.antt
-have it, and what they do in a trial."""
+"""The Monitor's services that a routine may call: what they need and what they leave, as in crates/a2_promise_rules/proofs/Calling.antt and
+Typing.antt, and what they do in a trial.
+"""
 
 import re
 from pathlib import Path
@@ -7,7 +8,7 @@ from typing import NamedTuple
 
 from .language import Reader, spelt
 from .promises import Changes, Clause, Promise
-from .refusal import Refusal
+from .refusal import TRY_IT, Refusal
 from .terms import list_of
 from .written import said
 
@@ -16,7 +17,7 @@ SERVICE_ROW = re.compile(
     r"^service_row (\w+) = row_at (?:0x(\w{4})|at\.(\w+)) need\.(\w+) reaches\.(\w+) span\.(\w+) set\.\w+ set\.(\w+) cells\.(\w+)$", re.M
 )
 LOCATION = re.compile(r"^(\w+) = 0x(\w{4})$", re.M)
-# Where each hook stands, and the service that it is to lead to.
+# The address of each hook, and the service to which it must lead.
 LEADS = {"OutputHook": (0x36, "COUT1"), "InputHook": (0x38, "KEYIN")}
 
 
@@ -32,12 +33,12 @@ class Row(NamedTuple):
 
     @property
     def is_hook(self):
-        """Whether it jumps where a hook leads, so that another step comes behind it."""
+        """Returns whether it jumps through a hook, so that another step follows it."""
         return self.takes in LEADS
 
 
 def rows():
-    """The row of each service by its name."""
+    """Returns the row of each service by its name."""
     places = dict(LOCATION.findall((CRATES / "a2_bus/specs/Locations.antt").read_text(encoding="utf-8")))
     found = SERVICE_ROW.findall((CRATES / "a2_services/specs/Rows.antt").read_text(encoding="utf-8"))
     return {name.upper(): Row(int(number or places[place], 16), *rest) for name, number, place, *rest in found}
@@ -48,16 +49,16 @@ ADDRESSES = {name: row.address for name, row in ROWS.items()}
 HOOKS = {name for name, row in ROWS.items() if row.is_hook}
 WINDOW = ("$21 >= 1", "$20 + $21 <= 40", "$22 < $23", "$23 <= 24")
 CURSOR = (*WINDOW, "$25 < 24", "$20 + $24 < 40")
-# The hooks of output and input where they lead to COUT1 and to KEYIN.
+# The hooks of output and input, if they lead to COUT1 and to KEYIN.
 HOOK, KEY_HOOK = (*CURSOR, "word $36 = #$FDF0"), ("word $38 = #$FD1B",)
 LEFT = ("$25 < 24", "$20 + $24 < 40")
 # CH and CV, BASL and BASH, the mask of characters, and page 1; the line that GETLN reads
 PLACE, BASE, MASK, PAGE, LINE = (0x24, 0x25), (0x28, 0x29), (0x32, 0x32), (0x400, 0x7FF), (0x200, 0x2FF)
-# What a service wants by its needs, or by its hook, and where it may store.
+# What a service requires by its needs, or by its hook, and where it may store.
 WANTED = {"Nothing": (), "Key": (), "Window": WINDOW, "Cursor": CURSOR, "Line": CURSOR, "OutputHook": HOOK, "InputHook": KEY_HOOK}
 REACHED = {"Nowhere": (), "Mask": (MASK,), "Base": (BASE,), "Page": (PAGE,), "Screen": (PLACE, BASE, PAGE), "ScreenAndLine": (PLACE, BASE, LINE, PAGE)}
 BLANK, RETURN, FEED, BACKSPACE = 0xA0, 0x8D, 0x8A, 0x88
-# Where a line begins, the most keys of one, the key that ends it, and those that edit it.
+# Where a line begins, how many keys it has at most, the key that ends it, and those that edit it.
 LINE_START, MOST_OF_LINE, RETURN_KEY = LINE[0], 255, 0x0D
 EDITING = {0x08: "a left arrow", 0x15: "a right arrow", 0x18: "Ctrl-X"}
 
@@ -67,18 +68,18 @@ def clauses(texts):
 
 
 class Service:
-    """A service, called as a routine with a promise is; it needs no proof but a rule."""
+    """A service, called like a routine with a promise. It needs no proof, only a rule."""
 
     def __init__(self, name, left=(), known=None, rule="refl", keys=(), stores=(), byte=None):
         self.name, self.row = name, ROWS[name]
         self.wanted = WANTED[self.row.takes if self.row.is_hook else self.row.needs]
         self.rule = f"{name.lower()}_serves @ {rule}{' refl' if self.row.is_hook else ''}"
-        # the registers that are numbers behind it, each with the name of the fact; and the bytes
+        # the registers that are numbers after it, each with the name of the fact; and the bytes
         self.known, self.stores = known or {}, list(stores)
         # the byte of RAM that it sets, by its address
         self.byte = byte
         left = (*left, f"${byte[0]:02X} = #${byte[1]:02X}") if byte else left
-        # the row of what its hook leads to, or its own: what it stores and shows, and the rest of what it sets
+        # the row of the service to which its hook leads, or its own: what it stores and shows, and what else it sets
         self.does = ROWS[LEADS[self.row.takes][1]] if self.row.is_hook else self.row
         changes = Changes({self.row.sets, self.does.sets} - {"Empty"}, list(REACHED[self.does.reach]))
         self.promise = Promise(name, 0, self.row.address, clauses(self.wanted), clauses(left), changes, list(keys))
@@ -87,11 +88,11 @@ class Service:
         return self.promise.changes.ranges
 
     def proof(self, s):
-        """The proof that it keeps what is promised, where it is called with this S."""
+        """Returns the proof that it keeps what is promised, if it is called with this S."""
         return f"({self.rule.replace('@', f'code {s} (omega arith)')})"
 
     def fits(self, screen):
-        """Whether window, cursor and hook let it be called."""
+        """Returns whether window, cursor and hook allow the call."""
         if self.row.is_hook:
             at, _ = LEADS[self.row.takes]
             if screen.memory[at] + 256 * screen.memory[at + 1] != self.does.address:
@@ -115,37 +116,37 @@ SERVICES = {
         Service("WAIT", ("A = 0",), {"A": (0, "e1")}),
     )
 }
-# Those that take keys, and others.
+# Services that take keys, and others.
 RDKEY, KEYIN, GETLN = (ADDRESSES[name] for name in ("RDKEY", "KEYIN", "GETLN"))
 TAKERS = {RDKEY: "RDKEY", KEYIN: "KEYIN", GETLN: "GETLN"}
 OTHERS = {address: name for name, address in ADDRESSES.items() if address not in SERVICES and address not in TAKERS}
 
 
 def why_unproved(address):
-    """Why what calls a service can't be proved; None where no service is, or one that may be called."""
-    return f"a call of {OTHERS[address]} can't be proved yet: a2lab promise tries it" if address in OTHERS else None
+    """Returns why a call of a service cannot be proved, or None if it can or if there is no service."""
+    return f"calling {OTHERS[address]} cannot be proved yet; {TRY_IT}" if address in OTHERS else None
 
 
 def services_of(program):
-    """The services that a program calls; those that take keys as they take some."""
+    """Returns the services that a program calls; those that take keys with the keys that they take."""
     called = {it.value for it in program.statements if it.is_instruction and it.mnemonic == "JSR"}
     takers = [LineTaker([]) if address == GETLN else KeyTaker(address, 0) for address in sorted(called & set(TAKERS))]
     return [SERVICES[address] for address in sorted(called & set(SERVICES))] + takers
 
 
 class Unproved(Refusal):
-    """What may be so, and can't be proved."""
+    """Something that may hold, but cannot be proved."""
 
 
 class KeyTaker(Service):
-    """KEYIN, or RDKEY where its hook leads there, as it takes this key."""
+    """KEYIN, or RDKEY if its hook leads there, taking this key."""
 
     def __init__(self, address, key):
         super().__init__(TAKERS[address], (), {"A": (0x80 + key, "e1")}, f"{key} (omega arith) refl", [key])
 
 
 class LineTaker(Service):
-    """GETLN as it takes the keys of this line, and RETURN."""
+    """GETLN, taking the keys of this line, and RETURN."""
 
     def __init__(self, line):
         known = {"X": (len(line), "e3")}
@@ -153,40 +154,40 @@ class LineTaker(Service):
 
 
 def line_stores(line):
-    """The bytes of a line and of its return, with their addresses."""
+    """Returns the bytes of a line and of its RETURN, with their addresses."""
     return list(enumerate([*(plain_byte(key) for key in line), RETURN], LINE_START))
 
 
 def plain_byte(key):
-    """The byte that a key stands for in a line: small letters are capitals."""
+    """Returns the byte for a key in a line: small letters become capitals."""
     return 0x80 + key - (0x20 if key >= 0x60 else 0)
 
 
 def taker_of(address, keys, promised, line):
-    """A service as it takes the first of the keys that wait, of those that are promised to be taken."""
+    """Returns a service that takes the first of the waiting keys, which are those that are promised to be taken."""
     name = TAKERS[address]
     if not keys and not promised:
-        raise Refusal(line, f"{name} waits for a key, and no line takes types one: it does not come back")
+        raise Refusal(line, f"{name} waits for a key, but no `takes` line types one, so it does not return")
     if not keys:
-        raise Refusal(line, f"{name} waits for a key, and those of takes are taken: it does not come back")
+        raise Refusal(line, f"{name} waits for a key, but all keys of `takes` are taken, so it does not return")
     return LineTaker(line_of(keys, line)) if address == GETLN else KeyTaker(address, keys[0])
 
 
 def line_of(keys, line):
-    """The keys before the first RETURN."""
+    """Returns the keys before the first RETURN."""
     if RETURN_KEY not in keys:
-        raise Refusal(line, f"GETLN waits for RETURN, \\r, which is not among the keys that are left, {spelt(keys)}: it does not come back")
+        raise Refusal(line, f"GETLN waits for RETURN, but the keys left, {spelt(keys)}, have no \\r, so it does not return")
     found = keys[: keys.index(RETURN_KEY)]
     edits = next((EDITING[key] for key in found if key in EDITING), None)
     if edits:
-        raise Unproved(line, f"{edits} among the keys of a line, {spelt(found)}, edits it, which can't be proved yet: a2lab promise tries it")
+        raise Unproved(line, f"{edits} among the keys of a line, {spelt(found)}, edits it, which cannot be proved yet; {TRY_IT}")
     if len(found) > MOST_OF_LINE:
-        raise Unproved(line, f"GETLN gives up a line of more than {MOST_OF_LINE} keys, which can't be proved yet: a2lab promise tries it")
+        raise Unproved(line, f"GETLN gives up a line of more than {MOST_OF_LINE} keys, which cannot be proved yet; {TRY_IT}")
     return found
 
 
 class Screen:
-    """What services do with window, cursor and page 1 of a memory; the addresses that they store at."""
+    """What services do with window, cursor and page 1 of a memory, and the addresses at which they store."""
 
     def __init__(self, memory):
         self.memory, self.stored = memory, set()
@@ -258,7 +259,7 @@ class Screen:
             self.store(self.row(self.memory[0x25]) + self.left + column, BLANK)
 
     def read(self, keys):
-        """Reads the keys of a line and RETURN, with its prompt before."""
+        """Reads the keys of a line and RETURN, after its prompt."""
         self.put(self.memory[0x33])
         for at, byte in line_stores(keys[:-1]):
             self.store(at, byte)
@@ -267,14 +268,14 @@ class Screen:
             self.put_unmasked(byte)
 
     def base(self):
-        """BASL and BASH as output leaves them."""
+        """Returns BASL and BASH as output leaves them."""
         at = self.row(self.memory[0x25]) + self.left
         self.store(0x28, at & 255)
         self.store(0x29, at >> 8)
 
 
 def served(it, registers, memory):
-    """Does what a service does; the addresses that it stores at, or None where window, cursor or hook do not let it."""
+    """Does what a service does. Returns the addresses at which it stores, or None if window, cursor or hook do not allow the call."""
     screen = Screen(memory)
     if not it.fits(screen):
         return None
@@ -288,7 +289,7 @@ def served(it, registers, memory):
 
 
 def show(it, registers, screen):
-    """What a service does with cells of the screen; a hook what it leads to does."""
+    """Does what a service does with cells of the screen; a hook does what the service behind it does."""
     does = it.does.on_screen
     if does == "ReadsLine":
         screen.read(it.promise.keys)

@@ -1,5 +1,6 @@
-"""What instructions do to a state of which little is known by value: registers, flags and bytes as terms, and facts about them
-that the prover's arithmetic wants."""
+"""What instructions do to a state of which little is known by value: registers, flags and bytes as terms, and facts about them that the
+prover's arithmetic needs.
+"""
 
 import copy
 import re
@@ -14,17 +15,17 @@ ONES = re.compile(r"0*1+0*")
 INDEXED = ("ZeroPageX", "ZeroPageY", "AbsoluteX", "AbsoluteY")
 
 
-# What is a copy's own of a state.
+# The parts of a state that a copy has for itself.
 COPIED = (
     *("registers", "flags", "memory", "stores", "facts", "lines", "known", "path"),
     *("zeros", "links", "reads", "universals", "all_has", "taken"),
 )
 
-# How many stores on text pages at known addresses may follow one another: each is a part of a proof within the one before.
+# How many stores on text pages at known addresses may follow one another: each is part of a proof inside the one before.
 MOST_CELLS = 8
 TOO_MANY_CELLS = (
-    f"more than {MOST_CELLS} stores on text pages one behind another take too long: "
-    "a loop wants lines invariant and decreases before its label"
+    f"more than {MOST_CELLS} stores to text pages one after another take too long; "
+    "a loop needs invariant and decreases lines before its label"
 )
 
 
@@ -38,38 +39,39 @@ class Ground(NamedTuple):
 
 
 class State:
-    """A place in a proof: `steps` steps behind the prover's world `world`, in terms of the world that the variable `base` is."""
+    """A place in a proof: `steps` steps after the prover's world `world`, in terms of the world in the variable `base`."""
 
     def __init__(self, base, world, pc, s):
         self.base, self.world, self.pc, self.s = base, world, pc, s
         self.steps = 0
-        # the loop at whose top it stands; and the keys that were taken since the entry
+        # the loop at whose top it is; and the keys that were taken since the entry
         self.top, self.taken = None, []
-        # its memory; and the fact that what may not be changed is as at the entry, None where it is that world's
+        # its memory; and the fact that what may not change is as at the entry, or None if the memory is that of the entry
         self.memory_is, self.keep = f"{base}.memory", None
         self.registers = {it: f"{base}.registers.{it.lower()}" for it in "AXY"}
         self.flags = {it: ("unknown", f"{base}.registers.flags.{it.lower()}") for it in "NVZC"}
         # bytes that were stored, by their addresses; and the stores in their order
         self.memory, self.stores = {}, []
-        # names of facts for the arithmetic; lines that are still to be written; what stands behind each name
+        # names of facts for the arithmetic; lines that must still be written; what each name stands for
         self.facts, self.lines, self.known = [], [], []
-        # how it came here, and how many branches that are not known lie behind it
+        # how the run came here, and how many branches with unknown flags it has passed
         self.path, self.depth = [], 0
-        # the fact of the last branch that is not known, and what holds where it goes the other way
+        # the fact of the last branch with an unknown flag, and what holds if it goes the other way
         self.turned = None
         # facts that a term is 0
         self.zeros = {}
-        # how each memory came of another; bytes that were read at addresses that are not numbers; what holds of each number below another
+        # how each memory was made from another; bytes that were read at addresses that are not numbers; what holds for each number below
+        # another
         self.links, self.reads, self.universals = {}, [], []
-        # the worlds in which the run last came to the labels of loops
+        # the worlds in which the run last reached the labels of loops
         self.labels = {}
         # facts that memories are whole
         self.all_has = {self.memory_is: "bytes.ram"}
-        # how many stores on text pages lie behind it, up to the loop or call before
+        # how many stores on text pages it has passed since the last loop or call
         self.cells = 0
-        # the world whose registers it began with, and the fact that it is whole
+        # the world with whose registers it began, and the fact that this world is whole
         self.origin, self.whole = base, "bytes"
-        # what a loop's top was, where a round of it is under way; and what was known at the entry of the routine
+        # the state at a loop's top, within a round of it; and what was known at the entry of the routine
         self.loop = None
         self.ground = Ground([], [], [], [])
 
@@ -85,8 +87,8 @@ class State:
 
     @property
     def at(self):
-        """The way here, told."""
-        return (" where " + ", ".join(self.path)) if self.path else ""
+        """Returns the way here, in words."""
+        return (", on the path where " + ", ".join(self.path)) if self.path else ""
 
     def arithmetic(self):
         return f"(omega (arith, {', '.join(self.facts)}))" if self.facts else "(omega arith)"
@@ -97,7 +99,7 @@ class State:
 
 
 class StateWords(Words):
-    """Terms of an expression behind what was done up to a state."""
+    """Makes terms of an expression for what was done up to a state."""
 
     def __init__(self, run, state):
         super().__init__(state.base, "w", labels=state.labels)
@@ -131,7 +133,7 @@ class Run:
         self.program = program
         self.names = 0
         self.touched = set()
-        # of which bytes and registers facts speak, by their names, where that is known
+        # the bytes and registers in each fact, by the names of facts, as far as they are known
         self.keys = {}
         # the byte that an instruction reads at an address that is not a number, and the one that it stores there
         self.reached, self.put = None, None
@@ -141,7 +143,7 @@ class Run:
         return f"{letter}{self.names}"
 
     def fact(self, state, term, says="", keys=None):
-        """Has the arithmetic know what a term proves; where that is not what it computes to, it is said."""
+        """Gives the arithmetic what a term proves. If the term does not compute to that, it is stated."""
         if any(term + says == known for _, known in state.known):
             return
         name = self.fresh("f")
@@ -162,7 +164,7 @@ class Run:
 
     @staticmethod
     def test(flag):
-        """The comparison that a flag is, and of what."""
+        """Returns the comparison that a flag is, and its two sides."""
         kind = flag[0]
         if kind == "sum":
             return "le", 256, flag[1]
@@ -171,7 +173,7 @@ class Run:
         return flag
 
     def flag_number(self, state, letter):
-        """A flag as 0 or 1."""
+        """Returns a flag as 0 or 1."""
         flag = state.flags[letter]
         kind = flag[0]
         if kind == "known":
@@ -180,7 +182,7 @@ class Run:
             self.fact(state, f"bit_small {par(flag[1])}")
             return f"(one_if {flag[1]})"
         if kind == "opaque":
-            raise Refusal(0, f"what {letter} is here can't be proved")
+            raise Refusal(0, f"the value of {letter} here cannot be proved")
         if kind == "overflow":
             low = state.arithmetic()
             self.fact(state, f"overflow_bit {' '.join(par(it) for it in flag[2:])} {low} {low} {low}")
@@ -193,7 +195,7 @@ class Run:
         return f"(one_if (nat_le {par(m)} {par(n)}))" if test == "le" else f"(one_if ({par(m)} == {par(n)}))"
 
     def judge(self, state, term):
-        """N and Z of a result."""
+        """Sets N and Z from a result."""
         is_known = isinstance(term, int)
         state.flags["Z"] = ("known", term == 0) if is_known else ("eq", term, 0)
         state.flags["N"] = ("known", term > 127) if is_known else ("le", 128, term)
@@ -209,21 +211,21 @@ class Run:
             low, high = (self.cell(state, a) for a in self.pointer(state, it))
             address = (low + 256 * high + (state.registers["Y"] if it.mode == "IndirectIndexed" else 0)) & 0xFFFF
         if address >= RAM_END:
-            raise Refusal(it.line, f"${address:04X} lies above RAM: what keys and switches give can't be proved")
+            raise Refusal(it.line, f"${address:04X} is above RAM; the values of keys and switches cannot be proved")
         return address
 
     @staticmethod
     def pointer(state, it):
-        """The addresses of the two bytes of a pointer, where these are known."""
+        """Returns the addresses of the two bytes of a pointer, if they are known."""
         at = it.value + (state.registers["X"] if it.mode == "IndexedIndirect" else 0)
         return at & 255, (at + 1) & 255
 
     def is_reached(self, state, it):
-        """Whether an instruction reads or stores at an address that is not known by value."""
+        """Returns whether an instruction reads or stores at an address that is not known by value."""
         if it.mode in INDEXED:
             return not isinstance(state.registers[it.mode[-1]], int)
         if it.mode == "IndexedIndirect" and not isinstance(state.registers["X"], int):
-            raise Refusal(it.line, f"{it.mnemonic} through a pointer that X chooses can't be proved where X is not known")
+            raise Refusal(it.line, f"{it.mnemonic} through a pointer chosen by X cannot be proved if X is not known")
         if it.mode not in ("IndexedIndirect", "IndirectIndexed"):
             return False
         parts = [state.memory.get(a) for a in self.pointer(state, it)]
@@ -232,7 +234,7 @@ class Run:
         return not all(isinstance(part, int) for part in parts)
 
     def follow(self, state, address):
-        """Has the arithmetic know what a byte's memory says of it."""
+        """Gives the arithmetic what the memory of a byte says about it."""
 
     def read(self, state, it):
         if it.mode == "Immediate":
@@ -253,7 +255,7 @@ class Run:
 
     def store(self, state, it, address, term):
         if self.program.is_code(address):
-            raise Refusal(it.line, f"it stores at ${address:04X}, where its own code stands")
+            raise Refusal(it.line, f"it overwrites code at ${address:04X}")
         if 0x400 <= address < 0xC00:
             state.cells += 1
         if state.cells > MOST_CELLS:
@@ -265,7 +267,7 @@ class Run:
     # Instructions
 
     def step(self, state, it):
-        """One instruction that is no branch."""
+        """Executes one instruction that is not a branch."""
         state.steps += 1
         behind = it.address + it.length
         state.pc = behind
@@ -279,7 +281,7 @@ class Run:
         else:
             action = getattr(self, "do_" + it.mnemonic.lower(), None)
             if action is None:
-                raise Refusal(it.line, f"{it.mnemonic} can't be proved yet")
+                raise Refusal(it.line, f"{it.mnemonic} cannot be proved yet")
             action(state, it)
 
     def load(self, state, register, term):
@@ -386,7 +388,7 @@ OF_BYTE, OF_REGISTER = re.compile(r"(?:bytes|stores_read \S.*) (\d+)(?: refl)?")
 
 
 def keys_in(term, says=""):
-    """The bytes or the register of which a fact speaks, where its term tells, and what it says."""
+    """Returns the bytes or the register in a fact, if its term shows them, and what it says."""
     if "ram_byte (" in says or "registers" in says:
         return None
     byte, register = OF_BYTE.fullmatch(term.rpartition(".")[2]) or OF_BYTE.fullmatch(term), OF_REGISTER.fullmatch(term)
@@ -396,7 +398,7 @@ def keys_in(term, says=""):
 
 
 def overflow_of(a, byte, carry):
-    """V of a sum."""
+    """Returns V for a sum."""
     if all(isinstance(it, int) for it in (a, byte, carry)):
         return "known", bool(~(a ^ byte) & (a ^ (a + byte + carry)) & 128)
     term = f"(overflows (signed {par(a)} +ℤ signed {par(byte)} +ℤ pos {par(carry)}))"
@@ -404,7 +406,7 @@ def overflow_of(a, byte, carry):
 
 
 def arithmetic_of(digit, mask):
-    """What an operation with a mask is in sums, of n, where the mask is one run of ones or zeros."""
+    """Returns an operation with a mask as sums of n, if the mask is one run of ones or zeros."""
 
     def run(mask):
         if not mask or not ONES.fullmatch(f"{mask:b}"):

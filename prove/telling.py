@@ -1,5 +1,6 @@
-"""What the lines before a routine's label say, written for the prover, which computes it of the text: each line as a `Line` of
-crates/a2_promise/specs/Told.antt, and what all of them say as `Terms`."""
+"""What the lines before a routine's label say, written for the prover, which computes it from the text: each line as a `Line` of
+crates/a2_promise/specs/PromisedTerms.antt, and what all of them say as `Terms`.
+"""
 
 from .saying import phrase
 from .terms import codes, flag, list_of
@@ -15,11 +16,11 @@ use Rattle.a2_promise.specs.Grammar.{fits}
 use Rattle.a2_promise.specs.Phrases.{Phrase, number, held, bound, old, of, pair, choice, each, sum}
 use Rattle.a2_promise.specs.Tokens.{tokens}
 use Rattle.a2_promise.specs.Tokens as token
-use Rattle.a2_promise.specs.Told.{Line, Terms, IsLine, IsTold}
-use Rattle.a2_promise.specs.Told as told
+use Rattle.a2_promise.specs.PromisedTerms.{Line, Terms, IsLine, IsPromisedBy}
+use Rattle.a2_promise.specs.PromisedTerms as told
 use Rattle.a2_promise.specs.Written.{meant, said, spelled}
 use Rattle.a2_promise.specs.Written as written
-use Rattle.a2_promise_rules.proofs.Told.{not_nothing, spells_keys}
+use Rattle.a2_promise_rules.proofs.StatedTerms.{not_nothing, spells_keys}
 use %s.Program.{lines, names}
 """
 FACTS = ("requires", "ensures")
@@ -36,7 +37,7 @@ def change(form, *parts):
 
 
 def terms_of(promise):
-    """A promise as `Terms`."""
+    """Returns a promise as `Terms`."""
     fields = [f"address = {promise.address}"]
     for name, clauses in (("wanted", promise.wanted), ("promised", promise.promised)):
         fields.append(f"{name} = {list_of(phrase(clause.expr) for clause in clauses)}")
@@ -68,7 +69,7 @@ class Told:
         return f"-- @{len(self.marks) - 1}"
 
     def line(self, k, line):
-        """A line: what it is, that it stands there, and what a fact says."""
+        """Returns a line: what it is, that it is there, and what a fact says."""
         where = f"line {line.number}: {line.text.strip()}"
         if line.verb in FACTS:
             text = f"abbrev fact_{k} : written.Written\nfact_{k} = {written(line.says)}\n\n"
@@ -92,7 +93,7 @@ class Told:
     def end(self, promise):
         count = range(1, len(promise.lines) + 1)
         text = "\nabbrev pub terms : Terms\nterms = record {\n" + "".join(f"  {it};\n" for it in terms_of(promise)) + "}\n"
-        text += f"\npub tells : IsTold lines names {promise.line - 1} {codes(promise.name)} terms\nunfolding tokens meant\n"
+        text += f"\npub tells : IsPromisedBy lines names {promise.line - 1} {codes(promise.name)} terms\nunfolding tokens meant\n"
         fields = ["line = _", "stands = refl", "is_label = refl", f"told = {list_of(f'line_{k}' for k in count)}"]
         fields += [f"are_lines = {''.join(f'(is_line_{k}, ' for k in count)}tt{')' * len(count)}", "is_promise = refl", "address = refl"]
         mark = self.mark(f"line {promise.line}: the lines before {promise.name}")

@@ -1,10 +1,10 @@
-"""Terms of the prover's language as texts; a number that is known is an int."""
+"""Terms of the prover's language as texts; a known number is an int."""
 
 import re
 
 
 def is_closed(text):
-    """Whether a text stands in one pair of parentheses."""
+    """Returns whether a text is in one pair of parentheses."""
     depth = 0
     for at, c in enumerate(text):
         depth += (c == "(") - (c == ")")
@@ -14,13 +14,13 @@ def is_closed(text):
 
 
 def par(term):
-    """A term as an argument."""
+    """Returns a term as an argument."""
     text = str(term)
     return text if re.fullmatch(r"[\w.]+", text) or is_closed(text) else f"({text})"
 
 
 def bare(term):
-    """A term without parentheses around it."""
+    """Returns a term without parentheses around it."""
     text = str(term)
     while text.startswith("(") and is_closed(text):
         text = text[1:-1]
@@ -38,7 +38,7 @@ def modulo(term, n=256):
 
 
 def flag(is_set):
-    """Whether a flag is set."""
+    """Returns whether a flag is set."""
     return "true" if is_set else "false"
 
 
@@ -47,13 +47,13 @@ def list_of(items):
 
 
 def codes(text):
-    """A text as the list of its bytes."""
+    """Returns a text as the list of its bytes."""
     if all(" " <= c <= "~" and c not in '"\\' for c in text):
         return f'(codes "{text}")'
     return list_of(text.encode("latin-1"))
 
 
-# Places of worlds, as a promise names them.
+# Parts of worlds, as a promise names them.
 PLACES = (
     (r"\(stepped code .*?\)\.registers\.([axy])\b", lambda m: m[1].upper()),
     (r"ram_byte \(stepped code .*?\)\.memory (\d+)", lambda m: f"${int(m[1]):02X}"),
@@ -66,7 +66,7 @@ PLACES = (
 
 
 def in_words(text):
-    """A term in the words of a promise, as far as that goes."""
+    """Returns a term in the words of a promise, as far as possible."""
     text = " ".join(text.replace("`", "").split())
     for pattern, words in PLACES:
         text = re.sub(pattern, words, text)

@@ -1,5 +1,6 @@
-"""A promise is tried in some states before it is proved: so a wrong one gets a state in which it fails, and one whose `requires`
-no state meets is not proved. Of a state that does the prover is told."""
+"""Tries a promise in some states before it is proved. For a wrong promise this gives a state in which it fails. A promise whose `requires`
+no state meets is not proved. The prover gets a state that meets it.
+"""
 
 import random
 
@@ -12,28 +13,28 @@ CORNERS = (0, 1, 2, 127, 128, 254, 255)
 STATES = 400
 TRIES = 60 * STATES
 STEPS = 20_000
-# How many runs may take longer, where lines say why they end.
+# How many runs may take longer, if lines say why they end.
 LONG_RUNS = 3
 MOST_SHOWN = 12
 MOST_OF_ARRAY = 24
-NO_STATE = "no state was found that is as it requires"
-NO_LAID_STATE = f"{NO_STATE} where the bytes of the program are as they are laid"
+NO_STATE = "no state was found that meets `requires`"
+NO_LAID_STATE = f"{NO_STATE} with the bytes of the program unchanged"
 
 
 def cells_in(e):
-    """The addresses that an expression names."""
+    """Returns the addresses that an expression names."""
     if e[0] == "of" and e[2][0] == "number":
         return {e[2][1], e[2][1] + 1} if e[1] == "Word" else {e[2][1]}
     return {a for part in e[1:] if isinstance(part, tuple) for a in cells_in(part)}
 
 
 def cells_of(promise):
-    """The addresses of RAM that a promise names."""
+    """Returns the addresses of RAM that a promise names."""
     return {a for clause in promise.wanted + promise.promised for a in cells_in(clause.expr) if a < RAM_END}
 
 
 def array_cells(e):
-    """Some addresses of RAM at which an expression reads where something is counted."""
+    """Returns some addresses of RAM that an expression reads in a counted expression."""
     if e[0] == "of" and e[2][0] == "pair" and e[2][1] == "Plus" and e[2][2][0] == "number":
         return set(range(e[2][2][1], e[2][2][1] + MOST_OF_ARRAY))
     return {a for part in e[1:] if isinstance(part, tuple) for a in array_cells(part)}
@@ -61,7 +62,8 @@ class Noted:
 
 
 class Found:
-    """A state that is as a routine requires: registers, flags, and the bytes where `requires` looks and the program lays none."""
+    """A state that is as a routine requires: registers, flags, and the bytes that `requires` reads and that are not bytes of the
+    program."""
 
     def __init__(self, registers, flags, memory, addresses):
         self.registers, self.flags = registers, flags
@@ -73,7 +75,7 @@ def is_required(promise, entry):
 
 
 def found_as_laid(laid, promise, entry):
-    """What is found of a state, if it is as required where the bytes of the program are as they are laid."""
+    """Returns what was found of a state, if it is as required with the bytes of the program as they are laid out."""
     memory = bytearray(entry.memory)
     for address, byte in laid.items():
         memory[address] = byte
@@ -118,7 +120,7 @@ class States:
 
 
 def meet(e, registers, memory):
-    """Makes a state as a fact wants it, where that is a register, a byte or a word that is a number."""
+    """Changes a state so that it meets a fact, if that sets a register, a byte or a word to a number."""
     if e[0] == "choice" and e[3] == ("number", 0):
         meet(e[1], registers, memory)
         meet(e[2], registers, memory)
@@ -136,7 +138,7 @@ def meet(e, registers, memory):
 
 
 def meet_each(count, e, memory):
-    """Makes the bytes of an array less than a number."""
+    """Changes the bytes of an array so that each is less than a number."""
     at, limit = e[2][2] if e[2][:2] == ("of", "Byte") else (), e[3][1] + (e[1] == "AtMost")
     if at[:2] == ("pair", "Plus") and at[2][0] == "number" and at[3][0] == "bound" and limit > 0:
         for a in range(at[2][1], min(at[2][1] + count, RAM_END)):
@@ -148,32 +150,36 @@ def shown(state, cells, letters="AXYC"):
     return ", ".join(parts + [f"${a:02X}={state.memory[a]}" for a in cells])
 
 
+def changed(what, before, now):
+    return f"{what} changed from {before} to {now} but is not listed in `changes`"
+
+
 def judge(promise, entry, behind, stored):
-    """What of the promise does not hold."""
+    """Returns what of the promise does not hold."""
     for clause in promise.promised:
         if not holds(clause.expr, entry, behind):
             return f"line {clause.line}: ensures {clause.text}: it does not hold"
     for letter in "AXY":
         before, now = entry.registers[letter], behind.registers[letter]
         if before != now and letter not in promise.changes.registers:
-            return f"{letter} does not stand behind changes, and is {now}, before {before}"
+            return changed(letter, before, now)
     allowed = set(promise.changes.addresses())
     for address in sorted(stored):
         before, now = entry.memory[address], behind.memory[address]
         if before != now and address not in allowed and not 0x180 <= address <= 0x1FD:
-            return f"${address:02X} does not stand behind changes, and is {now}, before {before}"
+            return changed(f"${address:02X}", before, now)
     return None
 
 
 def fails_in(machine, promise, entry):
-    """What fails in a state; the state that the routine leaves."""
+    """Returns what fails in a state, and the state that the routine leaves."""
     behind = State(dict(entry.registers), dict(entry.flags), bytearray(entry.memory))
     try:
         stored = machine.run(behind, promise.address, STEPS, promise.keys)
     except Stuck as stuck:
         return f"line {stuck.line}: {stuck.says}", behind
     says = judge(promise, entry, behind, stored)
-    return says or (f"it leaves keys that were typed: {spelt(machine.keys)}" if machine.keys else None), behind
+    return says or (f"it does not take all typed keys; these are left: {spelt(machine.keys)}" if machine.keys else None), behind
 
 
 class Runs:
@@ -188,7 +194,7 @@ class Runs:
         return self.count == STATES or self.long_runs == LONG_RUNS
 
     def failure(self, entry):
-        """What fails in a state, and where."""
+        """Returns what fails in a state, and where."""
         machine, promise = self.machine, self.promise
         self.count += 1
         says, behind = fails_in(machine, promise, entry)
@@ -202,7 +208,7 @@ class Runs:
 
 
 def tried(program, promise):
-    """What fails, and where; None if nothing does in the states that are tried, and with it a state that is as required."""
+    """Returns what fails, and where; or None if nothing does in the states that are tried, with a state that is as required."""
     runs, states, found = Runs(program, promise), States(program, promise), None
     for _ in range(TRIES):
         entry = states.next()

@@ -1,4 +1,4 @@
-"""What an expression is of a state at the entry and one at the exit: a whole number, or None."""
+"""The value of an expression for a state at the entry and one at the exit: a whole number, or None."""
 
 from .assembling import RAM_END
 

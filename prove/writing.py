@@ -11,7 +11,7 @@ from .telling import Told
 from .terms import codes, list_of
 
 CRATE = "promised"
-# The crates that it stands on.
+# The crates that it uses.
 BELOW = (
     "a2_promise_rules a2_theorems a2_promise_certify a2_footprint a2_promise a2_run a2_text a2_stream a2_opcode "
     "a2_syntax a2_hex a2_asm a2_page a2_bus a2_effect a2_cpu a2_burst a2_services a2_machine"
@@ -31,7 +31,7 @@ use Rattle.a2_asm.specs.Values.{Names}
 use Rattle.a2_asm.specs.declared.program.Statement.{Statement}
 use Rattle.a2_machine.specs.Meaning.{Code}
 use Rattle.a2_theorems.specs.Routines.{op}
-use Rattle.a2_theorems.proofs.Texts.{entry_of, statements_of}
+use Rattle.a2_theorems.proofs.TextRunProofs.{entry_of, statements_of}
 use Rattle.a2_theorems.proofs.Reading.{reading}
 use Rattle.a2_promise_rules.specs.Promised.{lines_of_routines}
 use Rattle.a2_promise_rules.proofs.Entered.{Laid, are_bytes, laid_of}
@@ -56,19 +56,19 @@ use Rattle.a2_promise_rules.proofs.Overflow.{overflow_bit}
 use Rattle.a2_promise_rules.proofs.Leaving.{Leaves, Waits, leaves, leaves_all, leaves_as, leaves_stores, still}
 use Rattle.a2_promise_rules.proofs.Meeting.{Whole, IsWhole, enter, stepped, home, Meets}
 use Rattle.a2_promise_rules.proofs.Proving.{onto, fork, loops, call, whole_after, whole, le_bit, odd_bit, eq_bit, le_yes, le_no, eq_yes, eq_no, each_byte, product_down, product_up, product_zero, product_ge, mul_swap, yes_le, no_le, yes_eq, no_eq, flag_yes, flag_no, weaken, none_below, one_more_below}
-use Rattle.a2_promise_rules.proofs.Ranges.{is_in, in_ranges, not_among, leaves_behind, kept_beside, kept_or_in}
+use Rattle.a2_promise_rules.proofs.Ranges.{is_in, in_ranges, not_among, leaves_further, kept_beside, kept_or_in}
 use Rattle.a2_promise_rules.proofs.Reaching.{take, put, change, taking, putting, changing}
-use Rattle.a2_promise_rules.proofs.Afresh.{afresh, put_here, put_other, put_read, put_whole, put_leaves, stores_whole, stores_read, then_stores, stores_leave, stores_other, same_byte, same_place, at_index, if_lt, if_le, if_eq, if_ne, one_of_two}
+use Rattle.a2_promise_rules.proofs.FreshMemory.{afresh, put_here, put_other, put_read, put_whole, put_leaves, stores_whole, stores_read, then_stores, stores_leave, stores_other, same_byte, same_place, at_index, if_lt, if_le, if_eq, if_ne, one_of_two}
 use Rattle.a2_promise_rules.proofs.Calling.{call_as, call_service, home_serves, prbyte_serves, prhex_serves, cout1_serves, cout_serves, crout_serves, vtab_serves, clreol_serves, setinv_serves, setnorm_serves, wait_serves}
 use Rattle.a2_promise_rules.proofs.Typing.{getln_serves, keyin_serves, rdkey_serves}
-use Rattle.a2_opcode.specs.Table.{fixed, paged}
+use Rattle.a2_opcode.specs.Table.{fixed, page_crossing_row}
 use Rattle.a2_opcode.specs.declared.Mnemonic.TheVariants.{Adc, And, Asl, Cmp, Dec, Eor, Inc, Lda, Ldx, Ldy, Lsr, Ora, Rol, Ror, Sbc, Sta, Stx, Sty}
 use Rattle.a2_opcode.specs.declared.Mode.TheVariants.{ZeroPageX, ZeroPageY, AbsoluteX, AbsoluteY, IndexedIndirect, IndirectIndexed}
 """
 
 END_USES = """use Rattle.std.specs.Prelude.{{codes}}
 use Rattle.a2_promise_rules.specs.Promised.{{IsProved}}
-use Rattle.a2_promise_rules.proofs.Kept.{{proved, told_of}}
+use Rattle.a2_promise_rules.proofs.Kept.{{proved, stated_by_text}}
 use {0.specs}.{{text}}
 use {0.proofs}.Program.{{listing, lines, names, laid, read, stated, cut, named, lays, small}}
 use {0.proofs}.{1}.{{terms, tells}}
@@ -77,14 +77,14 @@ use {0.proofs}.{2}.{{state, met}}
 
 # What the marked lines of Program.antt check.
 PROGRAM_MARKS = (
-    *("where the source begins", "the statements of the source", "the lines of the source", "the names of the source"),
+    *("the start of the source", "the statements of the source", "the lines of the source", "the names of the source"),
     *("the bytes of the source", "the bytes of the source"),
 )
 
 
 @dataclass
 class Source:
-    """A source, as the crate has it: the text in specs/NAME.antt, what is said of it in the module src/NAME.rt, and the proofs in
+    """A source in that crate: the text in specs/NAME.antt, what is said about it in the module src/NAME.rt, and the proofs in
     proofs/NAME/."""
 
     name: str
@@ -103,7 +103,7 @@ class Source:
 
 @dataclass
 class Written:
-    """A proof of a routine for an S: its text, what its marked lines prove, and on which proofs it stands."""
+    """A proof of a routine for an S: its text, what its marked lines prove, and which proofs it depends on."""
 
     source: Source
     routine: object
@@ -132,7 +132,7 @@ class Written:
 
 
 def literal(text):
-    """A line of a source with its end, if it has one, as the list of its bytes."""
+    """Returns a line of a source with its end, if it has one, as the list of its bytes."""
     line = text.removesuffix("\n")
     if line != text and all(" " <= c <= "~" and c not in '"\\' for c in line):
         return f'codes "{line}\\n"'
@@ -157,12 +157,12 @@ def rows(name, kind, items):
 
 
 def computed(k, name, says, unfolded):
-    """What is computed of the text."""
+    """Returns what is computed from the text."""
     return f"\npub {name} : {says}\nunfolding {unfolded}\n{name} = refl -- @{k}\n"
 
 
 def laid(it):
-    """The bytes of a statement, with their address."""
+    """Returns the bytes of a statement, with their address."""
     return f"({it.address}, {list_of(it.bytes) if any(it.bytes) else f'replicate {it.length} 0'})"
 
 
@@ -204,12 +204,12 @@ def ranges_text(ranges):
 
 
 def rest_of(routine, taken):
-    """That all else is as it was, where these keys were taken."""
+    """Returns that everything else is unchanged, if these keys were taken."""
     return [f"pub rest : Leaves w.memory {routine.name}_changed {list_of(taken)} v", "pub bytes : IsWhole v"]
 
 
 def contract(written):
-    """What is known before and behind a routine, as records."""
+    """Returns what is known before and after a routine, as records."""
     routine, promise = written.routine, written.routine.promise
     words = Words("v", "w")
     waits = [f"pub waits : Waits {list_of(promise.keys)} w"] if promise.keys else []
@@ -230,7 +230,7 @@ def contract(written):
 
 
 def measure_of(e, words):
-    """A measure; one that is a difference is 0 where it is below 0."""
+    """Returns a measure. If it is a difference below 0, it is 0."""
     return f"{words.up(e)} - {words.down(e)}" if is_minus(e) else words.plain(e)
 
 
@@ -239,7 +239,7 @@ def indented(text):
 
 
 def pairs(letter, count, of):
-    """The facts of a record, one behind the other."""
+    """Returns the facts of a record, one after another."""
     text = "tt"
     for k in range(count, 0, -1):
         text = f"({of}.{letter}{k}, {text})"
@@ -253,7 +253,7 @@ def before_of(promise):
 
 
 def ending(written):
-    """The theorem, of what the routine meets."""
+    """Returns the theorem, from what the routine meets."""
     name, promise = written.routine.name, written.routine.promise
     kept = ""
     for it in "AXY":
@@ -264,7 +264,7 @@ def ending(written):
     label, above = codes(promise.name), promise.line - 1
     body = (
         f"proved text {label} listing laid _ {above} terms state {name}_ranges read stated\n"
-        f"(told_of text {label} lines names {above} terms cut named tells) refl lays small met refl refl refl\n"
+        f"(stated_by_text text {label} lines names {above} terms cut named tells) refl lays small met refl refl refl\n"
         f"(λ w bytes before. weaken code (enter {promise.address} {S} w) _ _ {meets}\n"
         f"(λ u h. (h.0, h.1, {after}))) -- @@\n"
     )
@@ -286,7 +286,7 @@ def proof_file(written, all_written):
 
 
 def function_of(written):
-    """The function whose contract is the theorem. (A label may be no name of a function.)"""
+    """Returns the function whose contract is the theorem. (A label may not be a valid name of a function.)"""
     return f"keeps_{written.routine.promise.address:04x}"
 
 
@@ -312,7 +312,7 @@ def declared(modules, end=""):
 
 
 def files_of(source, written):
-    """The files of a source, with these proofs, by their names."""
+    """Returns the files of a source, with these proofs, by their names."""
     tops = [it for it in written.values() if it.s == S]
     parts = [part for it in tops for part in (it.told, it.met)]
     below = f"proofs/{source.name}"
@@ -329,7 +329,7 @@ def files_of(source, written):
 
 
 def write_crate(folder, sources):
-    """Writes the crate's files, of sources with their proofs; what another run left there goes, but for what the kit keeps."""
+    """Writes the crate's files, for sources with their proofs. What another run left there is removed, except what the kit keeps."""
     for part in ("specs", "proofs", "src"):
         shutil.rmtree(folder / part, ignore_errors=True)
     names = [source.name for source, _ in sources]

@@ -20,7 +20,7 @@ OPERATIONS = {
     "/": "Over",
     "%": "Modulo",
 }
-# What each quote adds to the code of a character, as ASC lays it.
+# What each quote adds to the code of a character, as in ASC.
 TOPS = {ord('"'): 128, ord("'"): 0}
 
 
@@ -35,7 +35,7 @@ class Token(NamedTuple):
 
 
 def said(tree):
-    """What an expression says."""
+    """Returns what an expression says."""
     form, *parts = tree
     return SAID[form](*parts)
 
@@ -72,7 +72,7 @@ def compared(sign, x, y):
 def joint(sign, e, f):
     x, y = said(e), said(f)
     if sign in RELATIONS:
-        # (a comparison may go on with its last number)
+        # (a comparison may continue with its last number)
         return both(x, compared(sign, said(e[3]), y)) if is_comparison(e) else compared(sign, x, y)
     if sign in OPERATIONS:
         return ("pair", OPERATIONS[sign], x, y)
@@ -80,7 +80,7 @@ def joint(sign, e, f):
 
 
 def are_laid(quote, text, place):
-    """The bytes from a place on are those of a text as ASC lays it: one after another, and all of them."""
+    """Returns that the bytes from a place on are those of a text as ASC stores it: one after another, and all of them."""
     made = None
     for k, c in enumerate(text):
         same = ("pair", "Equal", ("of", "Byte", place(k)), ("number", ord(c) + TOPS[quote]))
@@ -139,7 +139,7 @@ def part_term(part):
 
 
 def written(tree):
-    """A tree as a term."""
+    """Returns a tree as a term."""
     form, *parts = tree
     if form == "atom":
         return f"(written.atom atom.{parts[0]})"

@@ -1,4 +1,4 @@
-"""The causes of a stop, as the rows of crates/a2_machine/specs/Causes.antt have them."""
+"""The causes of a stop, from the rows of crates/a2_machine/specs/Causes.antt."""
 import re
 from pathlib import Path
 
@@ -7,6 +7,6 @@ ROW = re.compile(rb'^cause_row \w+ = row_of \(codes "([A-Z ]+)"\) (true|false)$'
 
 
 def by_own_end():
-    """The names of the causes by which a run comes to its end by itself, and those of the others."""
+    """Returns the names of the causes with which a run ends by itself, and those of the others."""
     rows = ROW.findall(ROWS.read_bytes())
     return [name for name, is_own in rows if is_own == b"true"], [name for name, is_own in rows if is_own == b"false"]

@@ -1,7 +1,7 @@
-"""What `rt ci` has proved on this machine, crate by crate: where a crate and all below it are as they were, it is not proved again.
+"""Keeps what `rt ci` has proved on this machine, crate by crate. If a crate and all below it are unchanged, it is not proved again.
 
-What is kept stands in the folder a2-crates of the user's cache, below the crate's name, by a sum of all that the verdict rests on: the
-toolchain, HANDLES, and the sources of the crate and of those below it. A toolchain of a later day keeps so itself.
+What is kept is in the folder a2-crates of the user's cache, below the crate's name, by a sum of everything that the verdict depends on: the
+toolchain, HANDLES, and the sources of the crate and of those below it. Newer toolchains keep this themselves.
 """
 import contextlib
 import hashlib
@@ -13,12 +13,12 @@ from pathlib import Path
 from kit import CACHE, KIT
 
 PROVED = CACHE / "a2-crates"
-# Of how many states of a crate what was built is kept.
+# For how many states of a crate the results are kept.
 STATES = 2
 
 
 def link(one, other):
-    """Gives a file a second name, or copies it where that cannot be."""
+    """Gives a file a second name, or copies it if that is not possible."""
     try:
         os.link(one, other)
     except OSError:
@@ -31,18 +31,18 @@ def sum_of_toolchain():
 
 
 class Kept:
-    """A crate, or its tests, as `rt ci` proves and builds it, and the folder of what is kept of it in this state."""
+    """A crate, or its tests, as `rt ci` proves and builds it, and the folder in which the results for this state are kept."""
 
     def __init__(self, crate, tests):
         found = sum_of_toolchain()
         found.update(repr((crate.allowed, tests, crate.stamp())).encode())
         self.out, self.at = Path(crate.folder, "out"), PROVED / (f"{crate.name}-tests" if tests else crate.name)
         self.folder = self.at / found.hexdigest()
-        # Its library; a program, as both compilers build it; or its tests.
+        # Its library; a program as both compilers build it; or its tests.
         self.built = (f"{crate.name}_tests",) if tests else ("rlib", crate.name, f"{crate.name}.by-rattle")
 
     def take(self):
-        """Puts what was built into the crate's out/, where this state is kept."""
+        """Copies what was built into the crate's out/, if this state is kept."""
         if not self.folder.is_dir():
             return False
         self.copy(self.folder, self.out)
@@ -50,7 +50,7 @@ class Kept:
         return True
 
     def keep(self):
-        """Keeps what was built, and of the other states the newest. Where there is no room, nothing is kept."""
+        """Keeps what was built, and the newest of the other states. If there is no space, nothing is kept."""
         with contextlib.suppress(OSError, shutil.Error):
             self.at.mkdir(0o700, parents=True, exist_ok=True)
             with tempfile.TemporaryDirectory(dir=PROVED, prefix="part-") as room:
@@ -66,23 +66,23 @@ class Kept:
                 shutil.rmtree(other / name, ignore_errors=True)
                 shutil.copytree(one / name, other / name, copy_function=link)
             elif (one / name).is_file():
-                # (a program may be overwritten where it stands, so it has no second name)
+                # (a program may be overwritten in place, so it is copied)
                 shutil.copy2(one / name, other / name)
 
 
 def keep_what_is_proved(made, anew):
-    """Has the kit's `rt ci` take what this machine has proved of the very same files, unless all is to be proved anew, and keep what it
-    proves."""
+    """Makes the kit's `rt ci` take what this machine has proved for identical files, unless everything must be proved again, and keep
+    what it proves."""
     whole = made.Crate.ci
 
     def ci(self, flags, tests):
         kept = Kept(self, tests)
         if not anew and kept.take():
             what = f"{self.name}: its tests are" if tests else f"{self.name} is"
-            made.say(f"{what} kept: this machine has proved the very same files", self.out)
+            made.say(f"{what} kept: this machine has proved identical files", self.out)
             return 0
         status = whole(self, flags, tests)
-        # (nobody may have changed a source meanwhile)
+        # (only if no source has changed in the meantime)
         if not status and Kept(self, tests).folder == kept.folder:
             kept.keep()
         return status

@@ -1,4 +1,4 @@
-"""What the scripts of the gate take from the toolchain's own: its commands as modules."""
+"""Makes the toolchain's own commands available to the scripts of the gate, as modules."""
 import contextlib
 import importlib.machinery
 import importlib.util
@@ -11,15 +11,15 @@ import threading
 from pathlib import Path
 
 KIT = Path(os.path.realpath(shutil.which("rt") or "rt")).parent.parent
-# What this machine keeps for its user from run to run.
+# What this machine keeps for its user between runs.
 CACHE = Path(os.environ.get("XDG_CACHE_HOME") or Path.home() / ".cache")
-# The verdict on each program that `rt ci` last proved, over which it can be compiled again: a folder for each, of its name.
+# The last verdict of `rt ci` on each program, with which it can be compiled again: a folder for each program, with its name.
 CHECKED = CACHE / "a2-checked"
 TICKS = os.sysconf("SC_CLK_TCK")
 
 
 def module_of(file):
-    """A script of the kit's bin/ as a module."""
+    """Returns a script of the kit's bin/ as a module."""
     name = file.replace("-", "_") + "_of_kit"
     loader = importlib.machinery.SourceFileLoader(name, str(KIT / "bin" / file))
     made = importlib.util.module_from_spec(importlib.util.spec_from_loader(name, loader))
@@ -29,7 +29,7 @@ def module_of(file):
 
 
 def processes():
-    """The parent of each process, and its processor seconds with those of the children that it has waited for."""
+    """Returns the parent of each process, and its processor seconds including those of the children that it has waited for."""
     found = {}
     for stat in Path("/proc").glob("[0-9]*/stat"):
         try:
@@ -41,7 +41,7 @@ def processes():
 
 
 def checks_below(top):
-    """How many checks run below a process. One that others share waits for these, and is none."""
+    """Returns how many checks run below a process. A check that waits for others, which share its work, does not count."""
     above = {process: parent for process, (parent, _) in processes().items()}
 
     def is_below(process):
@@ -61,8 +61,8 @@ def is_check(process):
 
 
 def sum_each_once(crate):
-    """Has a sum of a crate take each crate below it once. The kit's own takes it once for each way that leads there, which is a minute
-    of a processor where the crates stand in many layers."""
+    """Makes the sum of a crate count each crate below it once. The kit counts a crate once for each path to it, which takes a minute of a
+    processor if the crates are in many layers."""
     whole, known = crate.stamp, threading.local()
 
     def stamp(self):
@@ -74,14 +74,14 @@ def sum_each_once(crate):
         try:
             return whole(self)
         finally:
-            # (sources may be others at the next call)
+            # (sources may have changed before the next call)
             del known.sums
 
     crate.stamp = stamp
 
 
 def list_below_once(crate):
-    """Has the crates below one be listed once. The kit walks each way that leads down, each time, which is half a minute of a run."""
+    """Makes the kit list the crates below a crate once. The kit follows each path down each time, which takes half a minute of a run."""
     whole = crate.below
 
     def below(self):
@@ -93,7 +93,7 @@ def list_below_once(crate):
 
 
 def keep_checked(crate, folder):
-    """Keeps the verdict on a program, which stands in the folder, in place of the one before. Where there is no room, none is kept."""
+    """Keeps the verdict on a program, which is in the folder, in place of the one before. If there is no space, none is kept."""
     with contextlib.suppress(OSError, shutil.Error):
         CHECKED.mkdir(0o700, parents=True, exist_ok=True)
         room = Path(tempfile.mkdtemp(dir=CHECKED))
@@ -104,7 +104,7 @@ def keep_checked(crate, folder):
 
 
 def keep_what_is_checked(made):
-    """Has the kit's rt keep the verdict on each program that it proves, and not drop it once the program is compiled."""
+    """Makes the kit's rt keep the verdict on each program that it proves, instead of deleting it once the program is compiled."""
     whole = made.Crate.compile_by
 
     def compile_by(self, backend, words, to):
@@ -115,9 +115,9 @@ def keep_what_is_checked(made):
 
 
 def share_processors(made):
-    """Has a proof of `rt ci` take the processors that no other crate is ready for, and no wrong body that is tried beside it: in a chain of
-    crates, and at the end. Several that share a proof take up to a third more in all, so each has one while anything else is to be done.
-    Where the environment has A2_JOBS, each has so many."""
+    """Lets a proof of `rt ci` use the processors for which no other crate and no wrong body is ready, as in a chain of crates and at the
+    end. Several processes that share a proof take up to a third more in total, so each proof has one while there is other work. If the
+    environment has A2_JOBS, each has that many."""
     whole = made.Crate.ci
     is_there = lambda it: os.path.exists(f"{it.folder}/out/{it.name}" if it.is_program else it.rlib)
 
@@ -138,8 +138,8 @@ def share_processors(made):
 
 
 def take_what_is_kept(made, kept_of):
-    """Gives each library of the checkout what `rt ci` keeps of the very same files, as `kept_of` the crates gives it, and tells of which it
-    could: a check above them begins there, and proves none of them."""
+    """Gives each library of the checkout what `rt ci` keeps for identical files, as `kept_of` of the crates returns it, and prints for
+    which crates that was possible. A check above them begins there, and proves none of them again."""
     crates = [it for it in made.rtlib.crates_below(os.getcwd()) if not it.is_program]
     made.Crate.allowed = made.rtlib.Crate.allowed = made.handles_of(os.getcwd())
     kept, taken = kept_of(crates), []
@@ -153,7 +153,7 @@ def take_what_is_kept(made, kept_of):
 
 
 def give_library(kept, crate):
-    """Gives a crate its library, as built of the sources as they stand; whether it could."""
+    """Gives a crate its library, as built from the current sources; returns whether that was possible."""
     at = Path(crate.folder, "out/rlib")
     shutil.rmtree(at, ignore_errors=True)
     if not kept.give(crate, False, kept.key(crate)):
@@ -163,23 +163,23 @@ def give_library(kept, crate):
 
 
 def listed_sources(top):
-    """The sources as the gate listed them before it built their libraries: what `as_listed` says of each, by name; none where there is
-    no list."""
+    """Returns the sources as the gate listed them before it built their libraries: what `as_listed` returns for each, by name. Returns
+    nothing if there is no list."""
     listed = Path(top, "out/proved.sources")
     lines = listed.read_text(encoding="utf-8").split("\n") if listed.is_file() else []
     return {name: rest for name, _, rest in (it.partition(" ") for it in lines) if name}
 
 
 def as_listed(stat):
-    """A source's size, and the time of its last change, as the gate lists them."""
+    """Returns a source's size and the time of its last change, as the gate lists them."""
     return f"{stat.st_size} {stat.st_mtime_ns // 10**9}.{stat.st_mtime_ns % 10**9:09}"
 
 
 def rt_of_kit():
-    """The kit's rt, by which crates are read and built as by its commands."""
+    """Returns the kit's rt, so that crates are read and built as by its commands."""
     made = module_of("rt")
     sum_each_once(made.rtlib.Crate)
     list_below_once(made.rtlib.Crate)
-    # (its first call sets a signal's handler, which only the main thread may)
+    # (its first call sets a signal handler, which only the main thread may do)
     made.rtlib.guarded()
     return made

@@ -1,13 +1,13 @@
-"""What the clauses and proofs of functions rest on: which definitions and lemmas of their crate, one through another, by name.
+"""Finds what the clauses and proofs of functions depend on: definitions and lemmas of their crate, directly or through others, by name.
 
-It is read off the text, and takes rather too much for it than too little: each name that stands in a definition, a lemma or a proof
-and is one of its module or brought in there counts, be it bound within; and a module that is not found counts as all.
+It works on the text, and rather finds too much than too little. Each name in a definition, a lemma or a proof counts if it is a name of the
+module or is brought in there, even if it is bound locally. A module that is not found counts as everything.
 """
 import functools
 import re
 from pathlib import Path
 
-# In the place of a name: any of a module.
+# Stands for any name of a module.
 ANY = "*"
 WORD = re.compile(r"[^\s(){}\[\],;|]+")
 KEYWORDS = {"pub", "abbrev", "unfoldable", "unfolding", "record", "data", "mutual", "opaque"}
@@ -17,7 +17,7 @@ PATH = re.compile(r"crate::((?:specs|proofs)(?:::[\w-]+)+)")
 
 
 class Module:
-    """A file of definitions or lemmas: the words of each, where each stands, and what is brought in by which name."""
+    """A file of definitions or lemmas: the words of each, its place, and what is brought in under which name."""
 
     def __init__(self, crate, text):
         self.words, self.places, self.names, self.modules = {}, [], {}, {}
@@ -48,11 +48,11 @@ class Module:
                 self.names[(other or name).strip()] = module, name
 
     def at(self, place):
-        """The name of what stands at a place of the file."""
+        """Returns the name of what is at a place of the file."""
         return next((name for start, name in reversed(self.places) if start <= place), ANY)
 
     def below(self, own, name):
-        """What one of its names rests on, as modules and names; `own` is its own module."""
+        """Returns what one of its names depends on, as modules and names; `own` is its own module."""
         found = set()
         for word in self.words.get(name, ()):
             front, _, rest = word.partition(".")
@@ -62,19 +62,19 @@ class Module:
                 found.add(self.names[word])
             if rest and front in self.modules:
                 found.add((self.modules[front], rest.partition(".")[0]))
-        # (an operator stands in parts)
+        # (an operator is written in parts)
         found.update(it for word, it in self.names.items() if "◌" in word)
         found.update((own, word) for word in self.words if "◌" in word)
         return found
 
 
 def words_of(line):
-    """The words of a line, and those that dots part."""
+    """Returns the words of a line, and their parts between dots."""
     return {part for word in WORD.findall(line) for part in [word, *word.split(".")]}
 
 
 class Rests:
-    """The definitions and lemmas of a crate, and what its functions rest on of them."""
+    """The definitions and lemmas of a crate, and what its functions depend on."""
 
     def __init__(self, crate, functions):
         self.crate, self.functions, self.modules = crate, functions, {}
@@ -85,7 +85,7 @@ class Rests:
         return self.sources[function.file][start : function.end]
 
     def module(self, path):
-        """The module of a path, with the rest of the path behind it; none where there is no such file."""
+        """Returns the module of a path, with the rest of the path after it; nothing if there is no such file."""
         words = path.split(".")
         for count in range(len(words), 1, -1):
             file = Path(self.crate.folder, *words[:count]).with_suffix(".antt")
@@ -97,13 +97,13 @@ class Rests:
         return None, []
 
     def edited(self, file, at):
-        """What an edit of a file of definitions turns there, as a module and a name."""
+        """Returns what an edit of a file of definitions changes there, as a module and a name."""
         name, _ = self.module(".".join(Path(file).with_suffix("").parts))
         return name, self.modules[name].at(at) if name else ANY
 
     @functools.cache
     def brought_in(self, file):
-        """What the head of a source brings in of the crate's own, by name."""
+        """Returns what the head of a source brings in from its own crate, by name."""
         text, found = self.sources[file].decode(), {}
         for module, names in re.findall(rf"ghost use Rattle\.{self.crate.name}\.([\w.-]+)\.\{{([^}}]*)\}}", text):
             for it in names.split(","):
@@ -114,7 +114,7 @@ class Rests:
         return found
 
     def cited(self, file, text):
-        """What a text of a source cites."""
+        """Returns what a text of a source cites."""
         brought, found = self.brought_in(file), set()
         words = words_of(text)
         found.update(it for word, it in brought.items() if word in words or "◌" in word)
@@ -124,7 +124,7 @@ class Rests:
         return found
 
     def proofs_of(self, functions):
-        """All that stands in the proofs of functions."""
+        """Returns everything in the proofs of functions."""
         found = set()
         for it in functions:
             for file in Path(self.crate.folder, "proofs", *(it.circle or it.path)).glob("*.antt"):
@@ -134,7 +134,8 @@ class Rests:
 
     @functools.cache
     def code_rests_on(self):
-        """What any function with code may rest on: all that the sources cite beside their laws, and all of its proof."""
+        """Returns what any function with code may depend on: everything that the sources cite outside their laws, and everything in its
+        proof."""
         found = self.proofs_of([it for it in self.functions if it not in self.laws])
         for file, text in self.sources.items():
             for law in sorted((it for it in self.laws if it.file == file), key=lambda it: -it.first):
@@ -144,7 +145,7 @@ class Rests:
         return found
 
     def rests_on(self, functions):
-        """All that clauses and proofs of these functions rest on, as modules and names."""
+        """Returns everything that clauses and proofs of these functions depend on, as modules and names."""
         todo, found = set(), set()
         for it in functions:
             if it in self.laws:
@@ -158,7 +159,7 @@ class Rests:
             found.add((path, name))
             module, rest = self.module(path) if path else (None, [])
             if module != path:
-                # (of a contract, or made of a source: the clauses and types stand in the sources)
+                # (a module of a contract, or made from a source: the clauses and types are in the sources)
                 todo |= {(module, rest[0])} if module and rest else set()
                 continue
             names = self.modules[module].words
@@ -168,6 +169,6 @@ class Rests:
 
 
 def meet(one, other):
-    """Whether some of the one may be of the other."""
+    """Returns whether an item of one set may be in the other."""
     modules = {module for module, name in one if name == ANY}
     return any(it in one or it[0] in modules or it[1] == ANY and any(it[0] == module for module, _ in one) for it in other)

@@ -1,15 +1,21 @@
-"""What a wrong body is, and how the prover's answer to it is judged: a file crates/NAME/faults/*.edit, as `tests/faults` tries it.
+"""Defines what a wrong body is, and how the prover's answer to it is judged. A wrong body is a file crates/NAME/faults/*.edit;
+`tests/faults` tries them.
 
-An edit has the form of rt's must-fail edits. A check names each function that is not proved, and above it the goals of its own
-that failed: a caller's goals rest on the contracts of what it calls alone, so they say nothing of a callee that is not proved. So
-the faults of a crate are tried in rounds: each stands in a copy of its function beside it, with a copy of its proof, and is refused
-where its copy has a failed goal. A round checks these alone: each function of the crate, which `rt ci` proves beside that, has no code
-there, and where an edited one calls it a hole for its proof, which stands for its contract; so nothing is said of a function that no
-fault edits, and callers of an edited one rest on what it promises. A trait's methods, which no copy can stand beside, and circles of
-calls are edited in their place, and have a round for each further fault; what a check says nothing of, as of a caller of such a one, is
-tried in further ones. An edit of a constant, or of what no function has, names by a line `refused: PATH` the function that is not proved
-with it; nothing stands beside one of a definition that may rest on it. What is not refused so is tried alone, as rt does, and is refused
-where that check is.
+An edit has the form of rt's must-fail edits. A check names each function that is not proved, and above it those of its own goals that
+failed. The goals of a caller depend only on the contracts of what it calls, so they say nothing about a callee that is not proved.
+Therefore the faults of a crate are tried in rounds. Each fault is in a copy of its function beside the function, with a copy of its proof,
+and is refused if the copy has a failed goal.
+
+A round checks only these copies. Every function of the crate, which `rt ci` proves separately, has no code there. If an edited function
+calls it, its proof is a hole, which stands for its contract. So nothing is said about functions that no fault edits, and callers of an
+edited function depend on what it promises.
+
+- Methods of a trait, which can have no copy beside them, and circles of calls are edited in place, with a round for each further fault. If
+a
+  check says nothing about a fault, as about a caller of such a function, the fault is tried in further rounds.
+- An edit of a constant, or of text outside all functions, has a line `refused: PATH` with the function that is not proved with it.
+- No fault that may depend on an edited definition is in the same round as that edit.
+- A fault that is not refused this way is tried alone, as rt does, and is refused if that check is.
 """
 import contextlib
 import functools
@@ -26,16 +32,16 @@ from pathlib import Path
 from kit import CACHE, checks_below, module_of, rt_of_kit
 from rests import Rests, meet
 
-# What a check says as it ends with a function.
+# What a check prints when it has finished a function.
 ENDED = re.compile(r"checked (\S+), \d+ of \d+$")
 
 
 class Toolchain:
-    """All that is taken from the toolchain: how rt calls a check, reads an edit, and finds the functions of a source."""
+    """Everything that is taken from the toolchain: how rt starts a check, reads an edit, and finds the functions of a source."""
 
     def __init__(self, version):
         self.version = version
-        # The process below which no more checks are to run than there are processors, if one is named: more of them take a third longer
+        # The process below which at most as many checks run as there are processors, if one is named: more of them take a third longer
         # for the same work.
         self.together, self.beginning = None, threading.Lock()
         self.rt = rt_of_kit()
@@ -46,35 +52,35 @@ class Toolchain:
         return self.lib.crates_below(os.getcwd())
 
     def functions(self, crate):
-        """The functions of a crate, each with the check's name of it: its path, where a method stands below its type, or below type,
-        trait and the types that the trait is of as one word."""
+        """Returns the functions of a crate, each with the name that the check gives it: its path, in which a method is below its type, or
+        below one word for type, trait and the types of the trait."""
         source = self.bodies.Source(crate.folder)
         source.read("src/main.rt" if crate.is_program else "src/lib.rt")
         named = lambda words: self.bodies.named(words)[0]
         for it in source.functions:
             it.path = [*it.module, it.name]
             if it.block:
-                # (an impl for every type of a bound is of any)
+                # (an impl for every type with a bound is called Any)
                 owner = named(it.block.ty)
                 owner = "Any" if owner in it.block.generics else owner
                 module = it.module if it.block.trait or not source.declared[owner] else source.declared[owner][0][0]
-                # (of a path its last word counts)
+                # (only the last word of a path counts)
                 words = [a for a, b in zip(it.block.trait, [*it.block.trait[1:], ""]) if a.isidentifier() and b != ":" and a not in it.block.generics]
                 it.path = [*module, "".join([owner, *words]), it.name]
             it.circle = circle_of(it, crate)
         return source.functions
 
     def begin(self, words, **how):
-        """Begins a check, where there is room for it."""
+        """Starts a check when there is enough memory for it."""
         with self.beginning:
             while self.together and checks_below(self.together) >= self.rt.processors():
                 time.sleep(0.5)
             return subprocess.Popen(words, **how)
 
     def check(self, crate, faults, functions, kept):
-        """Checks the functions that these faults edit, and their copies, in a copy of the crate with all of the edits in it and a hole
-        for the proof of each other function. What it checked it leaves in the folder `kept`, where there is one. Returns the status,
-        what was said, and how many seconds each function took."""
+        """Checks the functions that these faults edit, and their copies, in a copy of the crate with all of these edits and with a hole
+        for the proof of each other function. It leaves what it checked in the folder `kept`, if there is one. Returns the status, the
+        output, and how many seconds each function took."""
         edited = [function for it in faults if not it.number for function in it.functions]
         paths = [path for it in faults for path in it.paths()]
         with tempfile.TemporaryDirectory(prefix="faults-") as room:
@@ -110,11 +116,11 @@ class Toolchain:
 
 
 def circle_of(function, crate):
-    """The path of the proof of the circle of calls that a function is in, whose functions have one proof, if it is in one."""
+    """Returns the path of the common proof of the circle of calls that a function is in, if it is in one."""
     text = Path(crate.folder, function.file).read_bytes()
     named = re.search(rb"#\[cycle\((\w+)\)\]", text[function.first : function.opens])
     path = (*function.path[:-1], f"+{named[1].decode() if named else function.name}")
-    # (one that calls itself needs no attribute that says so)
+    # (a function that calls itself needs no attribute for that)
     return path if named or calls_itself(function) or Path(crate.folder, "proofs", *path).is_dir() else None
 
 
@@ -127,8 +133,8 @@ def calls_itself(function):
 
 
 def words_called(crate, faults):
-    """The words by which the functions that these faults edit, and the crate's macros, may name what they call: of their bodies, as they
-    were and as they are edited."""
+    """Returns the words by which the functions that these faults edit, and the crate's macros, may name what they call, from their bodies
+    before and after the edits."""
     texts = [new.decode() for fault in faults for _, _, _, new in fault.changes]
     for file in Path(crate.folder, "src").rglob("*.rt"):
         texts += re.findall(r"(?ms)^macro_rules! .*?^\}", file.read_text())
@@ -137,15 +143,15 @@ def words_called(crate, faults):
 
 
 def give_up_proof(path, proofs):
-    """Takes away the proof of a function, or of a circle of calls: what no edited function calls needs none, and to read it, or a hole
-    in its place, takes a check some third of what it begins with."""
+    """Removes the proof of a function, or of a circle of calls. What no edited function calls needs no proof, and reading it, or a hole in
+    its place, takes a third of the time that a check needs to begin."""
     for name in ("Answers", "Invariants", "Proof"):
         proofs.joinpath(*path, f"{name}.antt").unlink(missing_ok=True)
 
 
 def leave_open(crate, path, proofs):
-    """Puts a hole in the place of the proof of a function, or of a circle of calls. It is a hole for anything, since a check prints the
-    goal of each hole, and to write out a statement takes up to a second."""
+    """Replaces the proof of a function, or of a circle of calls, by a hole. The hole has no type, because a check prints the goal of each
+    hole, and writing out a statement takes up to a second."""
     folder = proofs.joinpath(*path)
     folder.mkdir(parents=True, exist_ok=True)
     proof, name = ".".join(["Rattle", crate.name, "proofs", *path]), f"{path[-1]}_spec"
@@ -155,8 +161,8 @@ def leave_open(crate, path, proofs):
 
 
 def ask_for_no_proof(folder):
-    """Adds an answer to no goal to a function's proof. Where each answer is to a goal, a check that leaves goals open writes out a proof
-    to begin with, which takes it seconds; the goals that failed it tells all the same."""
+    """Adds an answer that has no goal to a function's proof. If every answer has a goal, a check that leaves goals open first writes out a
+    proof, which takes seconds; it reports the failed goals in either case."""
     if not (folder / "Proof.antt").exists():
         folder.mkdir(parents=True, exist_ok=True)
         with open(folder / "Answers.antt", "a") as file:
@@ -164,7 +170,7 @@ def ask_for_no_proof(folder):
 
 
 def copy_proof(crate, path, other, proofs):
-    """Gives a function's copy the proof of the function."""
+    """Gives the copy of a function the function's proof."""
     at = proofs.joinpath(*path)
     if at.is_dir():
         names = re.compile(rf"(Rattle\.{crate.name}\.(?:proofs|specs\.contracts)\.){re.escape('.'.join(path))}(?!\w)")
@@ -175,8 +181,8 @@ def copy_proof(crate, path, other, proofs):
 
 
 class Fault:
-    """An edit: where it changes which text, and in which functions; in none where some of it stands outside of all, and no line of
-    the edit names one. A number above 0 says in which copy of its function it stands."""
+    """An edit: its places and texts, and the functions that it changes. It changes none if part of it is outside all functions and no line
+    of the edit names one. A number above 0 says which copy of its function has it."""
 
     def __init__(self, path, crate, functions, rt, rests):
         self.path, self.name, self.changes, self.number, self.seconds = path, path.stem, [], 0, 0
@@ -189,7 +195,7 @@ class Fault:
         for file, old, new in [] if self.bad else pairs_of(path.read_text()):
             text = Path(crate.folder, file).read_bytes()
             if text.count(old) != 1:
-                # (it stands in what an earlier pair made)
+                # (it is in the text that an earlier pair made)
                 inside.add(None)
                 continue
             before, behind = alike(old, new)
@@ -204,16 +210,16 @@ class Fault:
 
     @functools.cached_property
     def rests_on(self):
-        """What its functions rest on."""
+        """Returns what its functions depend on."""
         return self.rests.rests_on(self.functions)
 
     def paths(self):
-        """The check's names of its functions, or of the copy, below the crate."""
+        """Returns the names that the check gives its functions, or the copy, below the crate."""
         ending = f"_again_{self.number}" if self.number else ""
         return [[*it.path[:-1], it.path[-1] + ending] for it in self.functions]
 
     def replaced(self, text):
-        """What it puts where in the text of its file: the places that it changes, or the whole copy behind the function."""
+        """Returns what it puts where in the text of its file: the places that it changes, or the whole copy after the function."""
         if not self.number:
             return self.changes
         function = self.functions[0]
@@ -225,7 +231,7 @@ class Fault:
 
 
 def pairs_of(edit):
-    """The file, the old text and the new one of each pair of an edit."""
+    """Returns the file, the old text and the new text of each pair of an edit."""
     file = old = ""
     for line in edit.split("\n"):
         head, _, rest = line.partition(":")
@@ -238,13 +244,13 @@ def pairs_of(edit):
 
 
 def alike(old, new):
-    """How many bytes two texts have alike at the start, and at the end behind these."""
+    """Returns how many bytes two texts have in common at the start, and after these at the end."""
     before = len(os.path.commonprefix([old, new]))
     return before, len(os.path.commonprefix([old[before:][::-1], new[before:][::-1]]))
 
 
 def together(crate, faults, left):
-    """The texts of the crate with all these faults in them, and with no code in the functions that are left."""
+    """Returns the texts of the crate with all these faults, and with no code in the other functions."""
     texts = {}
     for file in {it[0] for fault in faults for it in fault.changes} | {it.file for it in left}:
         texts[file] = text = Path(crate.folder, file).read_bytes()
@@ -257,10 +263,11 @@ def together(crate, faults, left):
 
 
 def emptied(functions, file, text):
-    """The changes that leave functions of a file no code. A check follows the borrows of a function that a copy calls, though its proof is
-    a hole, and those of its closures, which takes seconds; the copy rests on its contract alone. Left as they are those of a circle of
-    calls, which would be none without these, what a constant may call, what has a type that only its code tells, laws, and each `drop`,
-    whose proof has another path than its hole."""
+    """Returns the changes that remove the code of functions of a file. A check follows the borrows of a function that a copy calls, and
+    those of its closures, even if its proof is a hole, which takes seconds; the copy depends only on its contract. Not changed are
+    functions in a circle of calls, which would not be one without them; those that a constant may call; those with a type that only their
+    code shows; laws; and each `drop`, because its proof has another path than its hole.
+    """
 
     def can_be(it):
         is_called_plainly = it.circle is None and it.name != "drop" and "impl" not in it.ret
@@ -270,13 +277,13 @@ def emptied(functions, file, text):
 
 
 def are_apart(fault, other):
-    """Whether what a fault's functions are refused for can't be that another fault turns a definition."""
+    """Returns whether a fault's functions cannot be refused because another fault changes a definition."""
     return not other.definitions or not meet(fault.rests_on, other.definitions)
 
 
 def rounds_of(faults):
-    """Parts faults into rounds in which no function has two but by copies, no two are of functions that call one another in a circle,
-    and none is of a definition that another fault's function may rest on."""
+    """Splits faults into rounds. In a round, no function has two faults except in copies, no two faults are in functions of one circle of
+    calls, and none changes a definition on which the function of another fault may depend."""
     places = lambda fault: {it.circle or it for it in fault.functions}
     rounds = []
     for fault in sorted(faults, key=lambda it: it.can_be_copied):
@@ -290,17 +297,17 @@ def rounds_of(faults):
     return rounds
 
 
-# An error that says no more than that a proof names what is gone.
+# An error that only says that a proof names something that no longer exists.
 LOST = re.compile(r"has no field|is not in scope|has no `|was not admitted|is no name|cannot be used")
 IN_PROOF = re.compile(r"(?:\./)?proofs/(\S+?)(?:/(?:Answers|Invariants|Proof))?\.antt:\d+:\d+: error: (?:`[^`]*`: )?(.*)")
 REFUSED = re.compile(r"fn (\S+): (?:not proved|no proof)(.*)")
-# A goal of the function whose line comes next.
+# A goal of the function in the next line.
 OPEN = re.compile(r"note: \S+:\d+:\d+: (?:it is not proved that|`search` found no proof).*?\(`([^`]+)`\)")
 
 
 def reasons(said):
-    """The functions that are not proved for a reason of their own, each with that reason: a goal, or an error in their proofs or in a
-    lemma that these cite."""
+    """Returns the functions that are not proved for a reason of their own, each with that reason: a goal, or an error in their proofs or
+    in a lemma that these cite."""
     errors, own, goals = {}, {}, []
     for line in said.split("\n"):
         at = IN_PROOF.match(line)
@@ -323,7 +330,7 @@ def reasons(said):
 
 
 def symbols(crate, fault, names):
-    """The check's names of the functions of a fault, and those of the closures in them."""
+    """Returns the names that the check gives the functions of a fault and the closures in them."""
     inside, found = lambda words: "::".join([crate.name, *words]), []
     for function, path in zip(fault.functions, fault.paths()):
         count = len(path) - 2 if function.block else len(path) - 1
@@ -338,7 +345,7 @@ def files_of(crate):
 
 
 class Refused:
-    """What earlier runs on this machine saw refused, of one crate as it stands: an empty file each, named by the sum."""
+    """What earlier runs on this machine have refused, for one crate in its current state: an empty file for each, named by the sum."""
 
     def __init__(self, crate, version, anew):
         self.crate, self.version, self.anew = crate, version, anew
@@ -346,13 +353,13 @@ class Refused:
         self.sum = self.sum_now()
 
     def sum_now(self):
-        """The sum of the toolchain's name, of this script, of the crate's sources, and of the libraries below it as they are built: a comment
-        or a proof in one of these changes nothing there."""
+        """Returns the sum of the toolchain's name, of this script, of the crate's sources, and of the libraries below it as they are
+        built. A comment or a proof in one of these libraries does not change it."""
         line = next(it for it in Path("crates.txt").read_text().split("\n") if it.partition(":")[0] == self.crate.name)
         texts = [self.version, Path(__file__).read_text(), Path(Path(__file__).parent, "rests.py").read_text(), line]
         texts += [f"{name} {Path(name).read_text()}" for name in sorted(files_of(self.crate))]
         for it in self.crate.below():
-            # (it has a sum of the library's other files)
+            # (this file has a sum of the library's other files)
             built = Path(it.rlib, "format")
             texts.append(f"{it.name} {built.read_text() if built.is_file() else None}")
         return hashlib.sha256("\0".join(texts).encode()).hexdigest()
@@ -364,7 +371,7 @@ class Refused:
         return not self.anew and self.file(fault).is_file()
 
     def keep(self, faults):
-        """Keeps these, unless a source was changed meanwhile, or nothing can be written there."""
+        """Keeps these, unless a source has changed in the meantime, or nothing can be written there."""
         with contextlib.suppress(OSError):
             if self.sum_now() == self.sum:
                 self.at.mkdir(0o700, parents=True, exist_ok=True)
@@ -373,7 +380,7 @@ class Refused:
 
 
 class Trial:
-    """The faults of one crate, and what they come to."""
+    """The faults of one crate, and the results of trying them."""
 
     def __init__(self, toolchain, crate, tell, anew):
         self.toolchain, self.crate, self.tell = toolchain, crate, tell
@@ -408,11 +415,11 @@ class Trial:
             shutil.rmtree(self.kept, ignore_errors=True)
 
     def rounds(self, faults):
-        """Tries these faults in rounds. Of a caller whose callee is edited beside it a check may say nothing: what a round says nothing of
-        is tried in further ones, as long as these tell of some, then each in one of its own, and else alone."""
+        """Tries these faults in rounds. A check may say nothing about a caller whose callee is edited too. Faults about which a round says
+        nothing are tried in further rounds as long as these decide some, then each in a round of its own, and otherwise alone."""
         rounds = rounds_of(faults)
         for number, now in enumerate(rounds):
-            # (one check by itself is done sooner where it keeps nothing)
+            # (a single check is faster if it keeps nothing)
             self.round(f"round {number + 1} of {len(rounds)}", now, self.kept if len(rounds) > 1 else None)
         left, self.unsaid = self.unsaid, []
         if len(faults) == 1:
@@ -433,7 +440,7 @@ class Trial:
         if status == 1 and re.search(r"(?m)^only=\d+ holes=", said):
             self.judge(faults, said)
         elif len(faults) > 1:
-            # (one of them keeps the check from an answer)
+            # (one of them prevents the check from answering)
             half = len(faults) // 2
             self.round(f"{title}, first half", faults[:half], kept)
             self.round(f"{title}, second half", faults[half:], kept)
@@ -441,7 +448,7 @@ class Trial:
             self.alone.append((faults[0], f"its check ended with status {status}"))
 
     def judge(self, faults, said):
-        """Holds each fault to what the check says of its function."""
+        """Compares each fault with what the check says about its function."""
         names, own = re.findall(r"(?m)^fn (\S+): ", said), reasons(said)
         for it in faults:
             mine = symbols(self.crate, it, names)
@@ -457,7 +464,7 @@ class Trial:
         began = time.time()
         kind, text = rt.must_fail(self.crate, str(fault.path), ["--jobs", "1"], self.kept)
         fault.seconds = time.time() - began
-        # (rt of an earlier kit answers yes or no)
+        # (the rt of an earlier kit answers yes or no)
         self.tell(f"{self.crate.name}: {fault.name} alone, {fault.seconds:.0f} s, since {why}")
         if kind == getattr(rt, "REFUSED", True) and "only because a proof file names" not in text:
             self.refused.append(fault)

@@ -1,2 +1,2 @@
-" Sources of a2 end by .s; this overrides the guess for assembly.
+" Sources for a2 end in .s; this overrides the guess for assembly.
 autocmd BufNewFile,BufRead *.s setlocal filetype=a2

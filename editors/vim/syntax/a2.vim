@@ -1,4 +1,4 @@
-" Sources of a2: labels in column 1, 56 mnemonics, six directives.
+" Sources for a2: labels in column 1, 56 mnemonics, six directives.
 if exists("b:current_syntax")
   finish
 endif
