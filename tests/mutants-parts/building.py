@@ -40,29 +40,21 @@ def copy_checkout(to):
         shutil.copy(TOP / name, to / name)
 
 
-def toolchain_that_keeps(folder):
-    """Makes a toolchain of links to the kit's, whose clang keeps the module of a program."""
-    module = script(TOP / "page/module")
-    module.link_all(folder, KIT / "toolchain", "bin")
-    module.link_all(folder / "bin", KIT / "toolchain/bin", "clang")
-    (folder / "bin/clang-of-kit").symlink_to(KIT / "toolchain/bin/clang")
-    shutil.copy(HERE / "keep-module", folder / "bin/clang")
-    (folder / "kept").mkdir()
-    return folder
-
-
 def make_module(copy, room):
     """Writes the module of the copied program to the folder."""
-    rt, toolchain = rt_of_kit(), toolchain_that_keeps(room / "toolchain")
+    rt, keeping = rt_of_kit(), script(TOP / "page/module")
+    toolchain = keeping.toolchain_that_keeps(room / "toolchain")
+    # (this clang only keeps the module, and does not compile it)
+    shutil.copy(HERE / "keep-module", toolchain / "bin/clang")
     crate = next(it for it in rt.rtlib.crates_below(str(copy)) if it.name == "a2lab")
     words = script(TOP / "tests/unproved").words_of(rt, crate, KIT / "c/libos_c.a")
     words[words.index("--toolchain") + 1] = toolchain
     how = {"stdin": subprocess.DEVNULL, "stderr": subprocess.PIPE, "env": {**os.environ, "TMPDIR": str(room)}}
     made = subprocess.run(words, cwd=crate.folder, text=True, errors="replace", check=False, **how)
-    kept = sorted((toolchain / "kept").iterdir(), key=lambda it: it.stat().st_size)
-    if not kept:
-        raise SystemExit(f"{made.stderr[-4000:]}mutants: the program does not compile with the bodies in it")
-    kept[-1].rename(room / "module.bc")
+    try:
+        keeping.module_in(toolchain).rename(room / "module.bc")
+    except keeping.Refused:
+        sys.exit(f"{made.stderr[-4000:]}mutants: the program does not compile with the bodies in it")
 
 
 def with_switches(text):
