@@ -38,7 +38,7 @@ fn answer_of(done: Result<(), DebugFault>) -> Answer
 
 /// Executes one call, and returns its answer.
 #[inline(always)]
-pub fn perform<A: Allocator>(debugger: &mut Debugger<A>, call: &Call<'_>) -> Answer
+pub fn perform<A: Allocator + Copy>(debugger: &mut Debugger<A>, call: &Call<'_>) -> Answer
     ensures { CallDoes debugger.old call.now result debugger.new }
 {
     match call {
@@ -56,7 +56,7 @@ pub fn perform<A: Allocator>(debugger: &mut Debugger<A>, call: &Call<'_>) -> Ans
 /// Executes a list of calls, one after another, and returns their answers in order. The answers, and the debugger
 /// afterwards, are what the definition of a session says about the list. Fails only if memory for the answers runs out,
 /// before any call is executed.
-pub fn perform_all<A: Allocator, B: Allocator>(
+pub fn perform_all<A: Allocator + Copy, B: Allocator + Copy>(
     alloc: B,
     debugger: &mut Debugger<A>,
     calls: &[Call<'_>],

@@ -47,7 +47,7 @@ impl<A: Allocator> Model for Checkpoints<A> {
 }
 
 // Puts a machine after the others in the ring, which must have room for it.
-fn put_back<A: Allocator>(
+fn put_back<A: Allocator + Copy>(
     ring: &mut HeapCircularBuffer<Box<Machine<A>, A>, A>,
     machine: Box<Machine<A>, A>,
 )
@@ -59,7 +59,7 @@ fn put_back<A: Allocator>(
 }
 
 /// Makes a checkpoint, if the steps from one count to another ended at a count that gets one.
-pub fn keep_at<A: Allocator>(
+pub fn keep_at<A: Allocator + Copy>(
     checkpoints: &mut Checkpoints<A>,
     machine: &Machine<A>,
     from: u32,
@@ -95,7 +95,7 @@ impl<A: Allocator + Copy> Checkpoints<A> {
     }
 }
 
-impl<A: Allocator> Checkpoints<A> {
+impl<A: Allocator + Copy> Checkpoints<A> {
     /// Returns how many checkpoints are held.
     pub fn len(&self) -> usize
         ensures len { result ≡ length self.now.held }

@@ -54,7 +54,7 @@ fn halt_of(stop: Stop) -> Halt
 }
 
 // Runs a machine, stopping at these breakpoints if they are heeded.
-fn run_machine<A: Allocator>(
+fn run_machine<A: Allocator + Copy>(
     machine: &mut Machine<A>,
     limit: u32,
     breaks: Breaks,
@@ -161,7 +161,7 @@ impl<A: Allocator + Copy> Debugger<A> {
     }
 }
 
-impl<A: Allocator> Debugger<A> {
+impl<A: Allocator + Copy> Debugger<A> {
     // Steps up to a count, which is not after the next checkpoint.
     fn run_to(&mut self, to: u32, breaks: Breaks) -> Halt
         requires ahead { self.old.count ≤ to }

@@ -9,7 +9,7 @@ use a2_stream::Output;
 use a2_text::{first_word, split_word};
 use std::alloc::Allocator;
 
-impl<A: Allocator> Debugger<A> {
+impl<A: Allocator + Copy> Debugger<A> {
     // Executes the call that a verb and the text after it mean, and returns its answer, or `None` if they mean no call.
     #[inline(always)]
     fn answer(&mut self, verb: Verb, rest: &[u8]) -> Option<Answer>

@@ -20,7 +20,7 @@ const MAX_BREAKS: usize = 256;
 const ADDRESSES: usize = 0x1_0000;
 
 // Returns the value of a name of the program.
-fn value_of<A: Allocator>(program: &Program<A>, name: &[u8]) -> Option<u16>
+fn value_of<A: Allocator + Copy>(program: &Program<A>, name: &[u8]) -> Option<u16>
     requires { is_name_of name.now ≡ true }
     ensures { result ≡ value_in program.now.names name.now }
 {
@@ -33,7 +33,7 @@ fn value_of<A: Allocator>(program: &Program<A>, name: &[u8]) -> Option<u16>
 /// Returns the address that a word means: `$` and 1 to 4 hexadecimal digits, or a name that a line of the program
 /// defines.
 #[tactic(auto, unfolding(crate::specs::Marks::word_address))]
-pub fn place_of<A: Allocator>(program: &Program<A>, word: &[u8]) -> Result<u16, DebugFault>
+pub fn place_of<A: Allocator + Copy>(program: &Program<A>, word: &[u8]) -> Result<u16, DebugFault>
     ensures { result ≡ place program.now.names word.now }
 {
     match word {
@@ -83,7 +83,7 @@ impl<A: Allocator + Copy> BreakSet<A> {
     }
 }
 
-impl<A: Allocator> BreakSet<A> {
+impl<A: Allocator + Copy> BreakSet<A> {
     /// Sets a breakpoint. Fails if 256 others are already set.
     pub fn set(&mut self, address: u16) -> Result<(), DebugFault>
         ensures { Marks self.old self.new result (marked self.old address) }
@@ -108,7 +108,7 @@ impl<A: Allocator> BreakSet<A> {
     }
 }
 
-impl<A: Allocator> Breakpoints for BreakSet<A> {
+impl<A: Allocator + Copy> Breakpoints for BreakSet<A> {
     ghost use Rattle.a2_text.specs.Bytes.{is_among};
 
     ghost is_breakpoint = { λ marks. is_among marks };

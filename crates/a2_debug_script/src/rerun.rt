@@ -11,7 +11,7 @@ use a2_machine::Machine;
 use std::alloc::Allocator;
 
 /// Runs the machine on to a count that it has not reached yet, with no keys typed on the way.
-pub fn run_on<A: Allocator>(
+pub fn run_on<A: Allocator + Copy>(
     machine: &mut Machine<A>,
     program: &Program<A>,
     log: &[Typed],
@@ -35,7 +35,12 @@ pub fn run_on<A: Allocator>(
 
 /// Takes the machine from the world before the keys typed at its count to a later count, by the same steps and keys as
 /// before.
-pub fn rerun<A: Allocator>(machine: &mut Machine<A>, program: &Program<A>, log: &[Typed], to: u32)
+pub fn rerun<A: Allocator + Copy>(
+    machine: &mut Machine<A>,
+    program: &Program<A>,
+    log: &[Typed],
+    to: u32,
+)
     requires here { IsAt program.now (world_before_keys program.now log.now machine.old.state.steps)
         machine.old.state.steps machine.old.state }
     requires ahead { machine.old.state.steps ≤ to }

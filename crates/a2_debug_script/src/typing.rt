@@ -7,7 +7,7 @@ use crate::Typed;
 use std::alloc::Allocator;
 
 /// Records keys that are typed at a count.
-pub fn note_keys<A: Allocator>(log: &mut Vec<Typed, A>, count: u32, keys: &[u8])
+pub fn note_keys<A: Allocator + Copy>(log: &mut Vec<Typed, A>, count: u32, keys: &[u8])
     requires { vec_len log.old + length keys.now ≤ vec_capacity log.old }
     ensures items { log.new.items ≡ log.old.items ++ typed_at count keys.now }
     ensures capacity { vec_capacity log.old ≤ vec_capacity log.new }
@@ -18,7 +18,7 @@ pub fn note_keys<A: Allocator>(log: &mut Vec<Typed, A>, count: u32, keys: &[u8])
 }
 
 /// Forgets the keys that were typed at counts above this one.
-pub fn forget_after<A: Allocator>(log: &mut Vec<Typed, A>, count: u32)
+pub fn forget_after<A: Allocator + Copy>(log: &mut Vec<Typed, A>, count: u32)
     ensures items { log.new.items ≡ up_to count log.old.items }
     ensures capacity { vec_capacity log.new ≡ vec_capacity log.old }
 {

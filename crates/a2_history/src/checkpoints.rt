@@ -44,7 +44,7 @@ fn stride_at(position: u64) -> u64
 }
 
 // Returns whether a checkpoint is due at a position: a multiple of the stride there, after all that are held.
-fn is_due<A: Allocator>(held: &[Machine<A>], position: u64) -> bool {
+fn is_due<A: Allocator + Copy>(held: &[Machine<A>], position: u64) -> bool {
     let is_after = match held.last() {
         Some(newest) => newest.steps() < position,
         None => true,
@@ -53,7 +53,7 @@ fn is_due<A: Allocator>(held: &[Machine<A>], position: u64) -> bool {
 }
 
 // Returns the index of the first checkpoint that need not be kept any more.
-fn first_unkept<A: Allocator>(held: &[Machine<A>], width: u64, now: u64) -> Option<usize>
+fn first_unkept<A: Allocator + Copy>(held: &[Machine<A>], width: u64, now: u64) -> Option<usize>
     ensures within { IfSome result (λ index. index < length held.now) }
     ensures other { IfSome result (λ index. (d : Device) → IsKept width now (slice_index_or held.now index d).state.steps → ⊥) }
 {
@@ -66,7 +66,7 @@ fn first_unkept<A: Allocator>(held: &[Machine<A>], width: u64, now: u64) -> Opti
 }
 
 // Removes one checkpoint that need not be kept any more, if there is one.
-fn remove_unkept<A: Allocator>(
+fn remove_unkept<A: Allocator + Copy>(
     held: &mut Vec<Machine<A>, A>,
     width: u64,
     now: u64,
@@ -78,7 +78,7 @@ fn remove_unkept<A: Allocator>(
 }
 
 // Drops the checkpoints that need not be kept any more.
-fn drop_unkept<A: Allocator>(held: &mut Vec<Machine<A>, A>, width: u64, now: u64)
+fn drop_unkept<A: Allocator + Copy>(held: &mut Vec<Machine<A>, A>, width: u64, now: u64)
     ensures thinned { Thins width now held.old.items held.new.items }
     ensures wanted { All (λ d. IsKept width now d.state.steps) held.new.items }
 {
@@ -103,7 +103,7 @@ fn copy_of<A: Allocator + Copy>(
 }
 
 // Adds a checkpoint, if there is memory and fewer than `most` are held.
-fn add<A: Allocator>(held: &mut Vec<Machine<A>, A>, copy: Machine<A>, most: usize)
+fn add<A: Allocator + Copy>(held: &mut Vec<Machine<A>, A>, copy: Machine<A>, most: usize)
     requires { length held.old.items ≤ most }
     ensures added { (held.new.items ≡ held.old.items) ⊎ (held.new.items ≡ held.old.items ++ copy ∷ []) }
     ensures few { length held.new.items ≤ most }
@@ -155,7 +155,7 @@ impl<A: Allocator + Copy> Checkpoints<A> {
     }
 }
 
-impl<A: Allocator> Checkpoints<A> {
+impl<A: Allocator + Copy> Checkpoints<A> {
     /// Returns how many checkpoints are held.
     pub fn len(&self) -> usize
         ensures { result ≡ length self.now }

@@ -44,14 +44,14 @@ impl<A: Allocator> Model for Course<A> {
 }
 
 // Types keys, if they fit.
-fn type_fitting<A: Allocator>(machine: &mut Machine<A>, keys: &Keys)
+fn type_fitting<A: Allocator + Copy>(machine: &mut Machine<A>, keys: &Keys)
     ensures { IsTyped keys.now machine.old.state machine.new.state }
 {
     let _ = machine.type_keys(keys);
 }
 
 // Types keys if they were typed at the machine's position.
-fn retype<A: Allocator>(machine: &mut Machine<A>, typed: &Typed)
+fn retype<A: Allocator + Copy>(machine: &mut Machine<A>, typed: &Typed)
     ensures { IsTypedBy (typed.now ∷ []) machine.old.state machine.new.state }
 {
     if typed.position == machine.steps() {
@@ -60,7 +60,7 @@ fn retype<A: Allocator>(machine: &mut Machine<A>, typed: &Typed)
 }
 
 // Types those keys of a log that were typed at the machine's position, if they fit.
-fn type_logged<A: Allocator>(machine: &mut Machine<A>, log: &[Typed])
+fn type_logged<A: Allocator + Copy>(machine: &mut Machine<A>, log: &[Typed])
     ensures { IsTypedBy log.now machine.old.state machine.new.state }
 {
     for typed in log {
@@ -85,7 +85,7 @@ fn next_typed_position(log: &[Typed], from: u64, end: u64) -> u64
 }
 
 // Runs some steps, at most `most`, all of which the observer sees, or returns why no step can be run.
-fn burst<A: Allocator, O: Observer>(
+fn burst<A: Allocator + Copy, O: Observer>(
     machine: &mut Machine<A>,
     most: u32,
     observer: &mut O,
@@ -129,7 +129,7 @@ impl<A: Allocator + Copy> Course<A> {
     }
 }
 
-impl<A: Allocator> Course<A> {
+impl<A: Allocator + Copy> Course<A> {
     /// Puts a machine at the start of the run.
     pub fn restart(&self, machine: &mut Machine<A>)
         ensures on { IsOn self.now machine.new.state }

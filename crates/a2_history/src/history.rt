@@ -131,7 +131,7 @@ impl<A: Allocator + Copy> History<A> {
 }
 
 // Returns why a machine is stuck, or `Cause::Limit` if it is not.
-fn cause_at<A: Allocator>(machine: &mut Machine<A>) -> Cause
+fn cause_at<A: Allocator + Copy>(machine: &mut Machine<A>) -> Cause
     ensures cause { IsCauseAt machine.old.state result }
     ensures kept { machine.new ≡ machine.old }
 {
@@ -170,7 +170,7 @@ fn run_one_by_one<A: Allocator + Copy, S: SearchTarget>(
 }
 
 // Puts a machine at a position that was reached before.
-fn put_at<A: Allocator>(
+fn put_at<A: Allocator + Copy>(
     course: &Course<A>,
     machine: &mut Machine<A>,
     checkpoints: &Checkpoints<A>,
@@ -192,7 +192,7 @@ fn put_at<A: Allocator>(
 }
 
 // Puts a machine where another one is.
-fn copy_from_other<A: Allocator>(machine: &mut Machine<A>, other: &Machine<A>)
+fn copy_from_other<A: Allocator + Copy>(machine: &mut Machine<A>, other: &Machine<A>)
     ensures on { (course : Seen) → IsOn course other.now.state → IsOn course machine.new.state }
     ensures steps { machine.new.state.steps ≡ other.now.state.steps }
     ensures guard { machine.new.state.guard ≡ machine.old.state.guard }
@@ -201,7 +201,7 @@ fn copy_from_other<A: Allocator>(machine: &mut Machine<A>, other: &Machine<A>)
 }
 
 // Puts a scout where a machine is, if the machine is far enough ahead.
-fn follow<A: Allocator>(scout: &mut Machine<A>, machine: &Machine<A>)
+fn follow<A: Allocator + Copy>(scout: &mut Machine<A>, machine: &Machine<A>)
     requires { scout.old.state.steps ≤ machine.now.state.steps }
     ensures on { (course : Seen) → IsOn course scout.old.state → IsOn course machine.now.state → IsOn course scout.new.state }
     ensures following { scout.new.state.steps ≤ machine.now.state.steps }
@@ -296,7 +296,7 @@ fn run_in_bursts<A: Allocator + Copy, S: SearchTarget, L: Lookout>(
 }
 
 // Returns the latest position, from a machine's own up to but not including an end, at which something is seen.
-fn search_from<A: Allocator, S: SearchTarget>(
+fn search_from<A: Allocator + Copy, S: SearchTarget>(
     course: &Course<A>,
     scout: &mut Machine<A>,
     from: &Machine<A>,
@@ -317,7 +317,7 @@ fn search_from<A: Allocator, S: SearchTarget>(
 
 // Returns the latest position before an end that was reached at which something is seen. It searches from the latest
 // checkpoint on, then from earlier ones, back to the start.
-fn search_back<A: Allocator, S: SearchTarget>(
+fn search_back<A: Allocator + Copy, S: SearchTarget>(
     course: &Course<A>,
     scout: &mut Machine<A>,
     checkpoints: &Checkpoints<A>,
@@ -346,7 +346,7 @@ fn search_back<A: Allocator, S: SearchTarget>(
     course.newest_seen(scout, start, sight)
 }
 
-impl<A: Allocator> History<A> {
+impl<A: Allocator + Copy> History<A> {
     /// Returns the machine at the position.
     pub fn machine(&self) -> &Machine<A>
         ensures world { world_of_state result.now.state ≡ here self.now }

@@ -13,7 +13,7 @@ pub trait SearchTarget {
     ghost is_found_in: { Self → World → Bool };
 
     /// Returns whether the condition holds in a machine's world.
-    fn is_found_in<A: Allocator>(&self, machine: &Machine<A>) -> bool
+    fn is_found_in<A: Allocator + Copy>(&self, machine: &Machine<A>) -> bool
         ensures { result ≡ is_found_in self.now (world_of_state machine.now.state) };
 }
 
@@ -24,7 +24,7 @@ pub struct Nothing;
 impl SearchTarget for Nothing {
     ghost is_found_in = { λ nothing world. false };
 
-    fn is_found_in<A: Allocator>(&self, _machine: &Machine<A>) -> bool {
+    fn is_found_in<A: Allocator + Copy>(&self, _machine: &Machine<A>) -> bool {
         false
     }
 }

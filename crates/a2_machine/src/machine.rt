@@ -395,7 +395,11 @@ impl<A: Allocator> Machine<A> {
         self.steps += done.made;
         self.made = self.made.saturating_add(done.made);
     }
+}
 
+// Whoever makes steps can copy the allocator. The compiler makes an instance of a generic function for each crate in which a
+// caller drops `Copy` from the bounds of its allocator; two instances of a burst would be called instead of inlined.
+impl<A: Allocator + Copy> Machine<A> {
     // Executes at most this many steps. Executes fewer only if the machine is stuck or a step reached a breakpoint, and then
     // returns that.
     fn make<B: Breakpoints, O: Observer>(

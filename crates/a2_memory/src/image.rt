@@ -10,7 +10,7 @@ use a2_machine::Machine;
 use std::alloc::{AllocError, Allocator};
 
 /// Returns the image of all bytes of a machine's RAM. Fails only if memory runs out.
-pub fn image_of<A: Allocator, B: Allocator>(
+pub fn image_of<A: Allocator + Copy, B: Allocator>(
     alloc: A,
     machine: &Machine<B>,
 ) -> Result<Image<A>, AllocError>

@@ -48,7 +48,7 @@ fn line_of(part: Part) -> Line
 }
 
 // Writes a part of the RAM of a session.
-fn write_part<A: Allocator, W: Output>(
+fn write_part<A: Allocator + Copy, W: Output>(
     session: &mut Session<A>,
     part: Part,
     writer: &mut W,
@@ -66,7 +66,7 @@ fn write_part<A: Allocator, W: Output>(
 /// Writes parts of a machine's RAM as the Monitor displays them: a line for the first address and for each address
 /// that is divisible by 8, such as `0300- A9 C1`. If a write fails, nothing more is written, so the output is a
 /// prefix of the whole. Returns an error in that case.
-pub fn write_parts<A: Allocator, W: Output>(
+pub fn write_parts<A: Allocator + Copy, W: Output>(
     machine: Machine<A>,
     parts: &[Part],
     writer: &mut W,

@@ -93,7 +93,7 @@ fn is_help(line: &[u8]) -> bool
 }
 
 // Executes a line, and writes its answer or the text of its error.
-fn reply<A: Allocator, W: Output>(
+fn reply<A: Allocator + Copy, W: Output>(
     session: &mut Session<A>,
     line: &[u8],
     writer: &mut W,
@@ -212,7 +212,7 @@ struct Before {
 }
 
 // The state of a session before a run.
-fn state_before<A: Allocator>(session: &Session<A>) -> Before
+fn state_before<A: Allocator + Copy>(session: &Session<A>) -> Before
     ensures look { result.look ≡ screen_of (state_of_session session.now).world }
     ensures steps { result.steps ≡ (state_of_session session.now).steps }
 {
@@ -224,7 +224,7 @@ fn state_before<A: Allocator>(session: &Session<A>) -> Before
 }
 
 // Writes how a run ended, or that its program is waiting.
-fn put_ending<A: Allocator, W: Output>(
+fn put_ending<A: Allocator + Copy, W: Output>(
     session: &Session<A>,
     waits: bool,
     notice: &[u8],
@@ -243,7 +243,7 @@ fn put_ending<A: Allocator, W: Output>(
 
 // Writes the report after a run: the screen if it changed, and how the run ended or that its program is waiting.
 #[tactic(auto, using(a2_stream::proofs::Joined::broke_off, a2_stream::proofs::Joined::went_on))]
-fn put_run<A: Allocator, W: Output>(
+fn put_run<A: Allocator + Copy, W: Output>(
     session: &Session<A>,
     is_changed: bool,
     waits: bool,
@@ -280,7 +280,7 @@ fn steps_left_if_waiting(waits: bool, limit: u32, made: u64) -> Option<u32>
     }
 }
 
-impl<A: Allocator> Monitor<'_, A> {
+impl<A: Allocator + Copy> Monitor<'_, A> {
     /// Returns whether a program is waiting for a key, so that the next line is one.
     pub(crate) fn is_waiting(&self) -> bool
         ensures { result ≡ is_some self.now.wait }
@@ -367,7 +367,7 @@ impl<A: Allocator> Monitor<'_, A> {
     }
 }
 
-impl<A: Allocator> Partner for Monitor<'_, A> {
+impl<A: Allocator + Copy> Partner for Monitor<'_, A> {
     ghost use Rattle.a2_monitor_session.specs.Monitors.{IsAnswer};
 
     ghost meets = { IsAnswer };

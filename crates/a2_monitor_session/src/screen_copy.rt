@@ -34,7 +34,7 @@ impl Model for ScreenCopy {
 
 impl ScreenCopy {
     /// Returns the current contents of a machine's screen.
-    pub(crate) fn at<A: Allocator>(machine: &Machine<A>) -> ScreenCopy
+    pub(crate) fn at<A: Allocator + Copy>(machine: &Machine<A>) -> ScreenCopy
         ensures { result ≡ screen_of (world_of_state machine.now.state) }
     {
         let view = machine.view();
@@ -47,7 +47,7 @@ impl ScreenCopy {
     }
 
     /// Returns whether a machine's screen still has these contents.
-    pub(crate) fn is_at<A: Allocator>(&self, machine: &Machine<A>) -> bool
+    pub(crate) fn is_at<A: Allocator + Copy>(&self, machine: &Machine<A>) -> bool
         ensures { (result ≡ true) ↔ IsSameScreen self.now (screen_of (world_of_state machine.now.state)) }
     {
         let view = machine.view();
@@ -56,7 +56,7 @@ impl ScreenCopy {
 }
 
 /// Writes the picture of a machine's screen, if requested.
-pub(crate) fn put_screen<A: Allocator, W: Output>(
+pub(crate) fn put_screen<A: Allocator + Copy, W: Output>(
     machine: &Machine<A>,
     is_asked: bool,
     writer: &mut W,

@@ -64,7 +64,7 @@ fn count_shown(text: &[u8]) -> u16 {
 }
 
 // Whether all bytes that are shown from an address on are those of the source.
-fn is_laid<A: Allocator>(image: &Image<A>, address: u16, text: &[u8]) -> bool {
+fn is_laid<A: Allocator + Copy>(image: &Image<A>, address: u16, text: &[u8]) -> bool {
     let mut at = address;
     for piece in text.chunks(3) {
         let Some(byte) = shown_byte(piece) else {
@@ -89,7 +89,7 @@ fn statement_from(statements: &[Statement], address: u16) -> Option<Statement> {
 }
 
 // Appends the number and text of the source line whose statement begins at the listed address.
-fn append_line<A: Allocator>(
+fn append_line<A: Allocator + Copy>(
     source: &Source<'_, A>,
     address: u16,
     shown: &[u8],
@@ -116,7 +116,7 @@ fn append_line<A: Allocator>(
 }
 
 // Appends a name in the column of names or after other names, with its address if that differs from the address of the line.
-fn append_name<A: Allocator>(
+fn append_name<A: Allocator + Copy>(
     name: &str,
     address: u16,
     is_first: bool,
@@ -138,7 +138,7 @@ fn append_name<A: Allocator>(
 }
 
 // Appends the names of an address.
-fn append_names_at<A: Allocator>(
+fn append_names_at<A: Allocator + Copy>(
     names: &Names<A>,
     address: u16,
     is_first: bool,
@@ -157,7 +157,7 @@ fn append_names_at<A: Allocator>(
 }
 
 // Appends the names of this many addresses from one on.
-fn append_names<A: Allocator>(
+fn append_names<A: Allocator + Copy>(
     names: &Names<A>,
     address: u16,
     count: u16,

@@ -72,7 +72,7 @@ impl<'a, A: Allocator + Copy> AssembledText<'a, A> {
     }
 }
 
-impl<'a, A: Allocator> AssembledText<'a, A> {
+impl<'a, A: Allocator + Copy> AssembledText<'a, A> {
     /// Returns the text.
     pub fn text(&self) -> &'a [u8]
         ensures { result.now ≡ self.now.text }

@@ -15,7 +15,7 @@ use a2_stream::{Output, WriteFault, put_all};
 use a2_syntax::lines;
 use std::alloc::{AllocError, Allocator};
 
-impl<A: Allocator> LineAnswerer for Debugger<A> {
+impl<A: Allocator + Copy> LineAnswerer for Debugger<A> {
     ghost use Rattle.a2_debug_script.specs.Stored.{Stored, NoneAbove};
     ghost use Rattle.a2_scripts.specs.DebugScripts.{Meets};
 

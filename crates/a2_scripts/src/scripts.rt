@@ -23,7 +23,7 @@ pub fn refusal(fault: Fault) -> RunFault
     }
 }
 
-impl<A: Allocator> LineAnswerer for Session<A> {
+impl<A: Allocator + Copy> LineAnswerer for Session<A> {
     ghost use Rattle.a2_monitor.specs.SessionStates.{SessionState, state_of_session};
     ghost use Rattle.a2_monitor.specs.Replies.{IsReply};
 

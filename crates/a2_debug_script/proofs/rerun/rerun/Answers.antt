@@ -44,7 +44,7 @@ loop-i-preserved g c =
       here = rw longer (at_steps (world_with_keys _ (take c.loop-i.i c.args.log.now ++ t ∷ [])) c.type_keys.new.self.state after);
       ahead = omega (arith, most, after.steps);
       more = omega (arith, first, after.steps);
-      past = All-more (λ x. x.count ≤ c.type_keys.new.self.state.steps) c.args.log.now _ (record { count = 0; key = 0 }) within (omega (arith, first, after.steps)) (omega (arith, after.steps));
+      past = All-more (λ x. x.count ≤ c.type_keys.new.self.state.steps) c.args.log.now _ (record { count = 0; key = 0 }) within (λ k d x. omega (arith, first, after.steps, c.loop-i.invariant.past k d x)) (omega (arith, after.steps));
       later = rw after.steps (NoneBelow-next c.args.log.now c.loop-i.i (record { count = 0; key = 0 }) c.requires.logged.order within);
       made = λ small. omega (arith, small, most, first, made, after.steps, c.run_on.ensures.made, c.loop-i.invariant.made small);
     }
