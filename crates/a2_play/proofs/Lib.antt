@@ -3,4 +3,3 @@ pub mod Keys
 pub mod Remade
 pub mod Runs
 pub mod Worlds
-pub mod Written

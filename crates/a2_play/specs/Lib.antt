@@ -2,5 +2,4 @@ pub mod Agains
 pub mod Backs
 pub mod Paces
 pub mod Played
-pub mod Records
 pub mod Replays

@@ -10,7 +10,6 @@ mod clock;
 mod pace;
 mod panel;
 mod player;
-mod record;
 mod replayed_run;
 mod session;
 mod spelling;
@@ -19,7 +18,6 @@ pub use clock::Clock;
 pub use pace::{Pace, due, second};
 pub use panel::TerminalSize;
 pub use player::Player;
-pub use record::{Record, RecordFault, put_record, record_of};
 pub use session::{Leave, Session, play};
 pub use spelling::put_keys;
 

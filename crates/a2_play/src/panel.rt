@@ -179,7 +179,7 @@ fn put_pace<W: Output>(face: &PanelContents, writer: &mut W) -> Result<(), Write
 }
 
 /// Writes the registers, the steps and the cycles into the panel.
-pub fn put_counts<A: Allocator, W: Output>(
+pub fn put_counts<A: Allocator + Copy, W: Output>(
     alloc: Global,
     machine: &Machine<A>,
     writer: &mut W,

@@ -57,7 +57,7 @@ impl Breakpoints for AtWait {
 }
 
 // Logs a key; there must be room.
-fn note_key<A: Allocator>(log: &mut Vec<Typed, A>, typed: Typed)
+fn note_key<A: Allocator + Copy>(log: &mut Vec<Typed, A>, typed: Typed)
     requires { vec_len log.old < vec_capacity log.old }
     ensures { log.new.items ≡ log.old.items ++ typed ∷ [] }
 {
@@ -91,7 +91,7 @@ impl<A: Allocator + Copy> Player<A> {
     }
 }
 
-impl<A: Allocator> Player<A> {
+impl<A: Allocator + Copy> Player<A> {
     /// Begins again: the machine is at the start of the program, with the program guarded and no key typed.
     pub fn restart(&mut self, program: &Program<A>)
         ensures played { IsPlayed program.now self.new }

@@ -16,7 +16,7 @@ use a2_timed_keys::Typed;
 use std::alloc::Allocator;
 
 /// Types a key if there is room, and returns whether there was.
-pub(crate) fn type_at<A: Allocator>(machine: &mut Machine<A>, key: u8) -> bool
+pub(crate) fn type_at<A: Allocator + Copy>(machine: &mut Machine<A>, key: u8) -> bool
     requires { key < 128 }
     ensures room { (result ≡ true) ↔ (length machine.old.state.bus.devices.keys < 4096) }
     ensures typed { machine.new ≡ machine_after result key machine.old }
@@ -25,7 +25,7 @@ pub(crate) fn type_at<A: Allocator>(machine: &mut Machine<A>, key: u8) -> bool
 }
 
 /// Puts a machine at the start of a program, with the program guarded.
-pub(crate) fn begin<A: Allocator>(machine: &mut Machine<A>, program: &Program<A>)
+pub(crate) fn begin<A: Allocator + Copy>(machine: &mut Machine<A>, program: &Program<A>)
     ensures world { world_of_state machine.new.state ≡ start program.now }
     ensures steps { machine.new.state.steps ≡ 0 }
     ensures guard { machine.new.state.guard ≡ Some (guard_of_program program.now) }
@@ -35,7 +35,7 @@ pub(crate) fn begin<A: Allocator>(machine: &mut Machine<A>, program: &Program<A>
 }
 
 // Types a key if it was typed after this many steps.
-fn type_stroke<A: Allocator>(machine: &mut Machine<A>, stroke: Typed, steps: u64)
+fn type_stroke<A: Allocator + Copy>(machine: &mut Machine<A>, stroke: Typed, steps: u64)
     ensures { stroke.key < 128 → HasRoom (keys_at (stroke ∷ []) steps) machine.old
         → machine.new ≡ with_keys (keys_at (stroke ∷ []) steps) machine.old }
 {
@@ -46,7 +46,7 @@ fn type_stroke<A: Allocator>(machine: &mut Machine<A>, stroke: Typed, steps: u64
 }
 
 // Types the keys that were typed after this many steps.
-fn type_due<A: Allocator>(machine: &mut Machine<A>, log: &[Typed], steps: u64)
+fn type_due<A: Allocator + Copy>(machine: &mut Machine<A>, log: &[Typed], steps: u64)
     ensures { All (λ t. t.key < 128) log.now → HasRoom (keys_at log.now steps) machine.old
         → machine.new ≡ with_keys (keys_at log.now steps) machine.old }
 {
@@ -87,7 +87,7 @@ fn next_due(log: &[Typed], made: u64, end: u64) -> u64
 
 // Continues a replay: types the keys that belong to the current position, and runs to the next position with keys, or
 // to `end`.
-fn run_on<A: Allocator>(machine: &mut Machine<A>, log: &[Typed], end: u64)
+fn run_on<A: Allocator + Copy>(machine: &mut Machine<A>, log: &[Typed], end: u64)
     requires { machine.old.state.steps < end }
     ensures { (program : Assembled) (last : ℕ) → IsReplaying program log.now last machine.old.state → end ≤ last
         → IsReplaying program log.now last machine.new.state
@@ -101,7 +101,7 @@ fn run_on<A: Allocator>(machine: &mut Machine<A>, log: &[Typed], end: u64)
 }
 
 /// Continues a replay to a position that the run reached.
-pub(crate) fn bring<A: Allocator>(machine: &mut Machine<A>, log: &[Typed], position: u64)
+pub(crate) fn bring<A: Allocator + Copy>(machine: &mut Machine<A>, log: &[Typed], position: u64)
     ensures { (program : Assembled) (last : ℕ) → IsReplaying program log.now last machine.old.state → position ≤ last
         → machine.old.state.steps ≤ position → IsReplaying program log.now last machine.new.state
         × (machine.new.state.steps ≡ position) }
@@ -116,7 +116,7 @@ pub(crate) fn bring<A: Allocator>(machine: &mut Machine<A>, log: &[Typed], posit
 
 /// Continues a replay in pieces of at most `piece` steps, until `goal` cycles have passed after a piece, or until
 /// `end`. Returns the position at which that piece began.
-pub(crate) fn seek<A: Allocator>(
+pub(crate) fn seek<A: Allocator + Copy>(
     machine: &mut Machine<A>,
     log: &[Typed],
     goal: u64,

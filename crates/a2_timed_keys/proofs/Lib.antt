@@ -3,5 +3,8 @@ pub mod Typing
 pub mod Worlds
 pub mod Running
 pub mod Meant
+pub mod Seeing
 pub mod EndLaws
+pub mod Again
 pub mod ViewLaws
+pub mod Written

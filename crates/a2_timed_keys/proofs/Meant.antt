@@ -23,7 +23,7 @@ use Rattle.a2_timed_keys.specs.declared.strokes.Typed.{Typed}
 use Rattle.a2_timed_keys.specs.Typed.{keys_typed_in, typed, keys_at, world_before_keys, world_with_keys, IsTypedEnd, IsOverfull}
 
 -- keys change no byte of RAM
-same_byte : (keys : List ℕ) (memory : Memory) (a : ℕ) → ram_byte (keys_typed_in keys memory) a ≡ ram_byte memory a
+pub same_byte : (keys : List ℕ) (memory : Memory) (a : ℕ) → ram_byte (keys_typed_in keys memory) a ≡ ram_byte memory a
 unfolding ram_byte
 same_byte keys memory a = go (cell_at a)
   where
@@ -76,7 +76,7 @@ module _ (statement_at : ℕ → Option Instr) (guard : Guard) (laid : ℕ → �
             (kept w holds (stuck-same w holds ∙ free n (omega arith))),
       )
 
-  with-same : (n : ℕ) → ((k : ℕ) → k < n → stuck b (world_with_keys b start log k) ≡ None)
+  pub with-same : (n : ℕ) → ((k : ℕ) → k < n → stuck b (world_with_keys b start log k) ≡ None)
       → (world_with_keys s start log n ≡ world_with_keys b start log n) × HoldsCode guard.code laid (world_with_keys b start log n).memory
   unfolding world_with_keys
   with-same n free =
@@ -124,6 +124,16 @@ typed_meant true program keys log limit end sound is = is
 typed_meant false program keys log limit end sound is =
     end-same (instr_at program.statements) (guard_of_program program) (laid_by program) (start_of_run program keys) log
     (same-code program sound) (start-holds program keys sound) limit end is
+
+-- up to there the bytes' run goes through the program's worlds
+pub world_meant : (free : Bool) (program : Assembled) (keys : List ℕ) (log : List Typed) (n : ℕ) → IsSound program
+    → ((k : ℕ) → k < n → stuck (bytes (guard_of_run free program)) (world_with_keys (bytes (guard_of_run free program)) (start_of_run program keys) log k) ≡ None)
+    → world_with_keys (bytes (guard_of_run free program)) (start_of_run program keys) log n
+    ≡ world_with_keys (code_of_run free program) (start_of_run program keys) log n
+world_meant true program keys log n sound going = refl
+world_meant false program keys log n sound going =
+    sym (with-same (instr_at program.statements) (guard_of_program program) (laid_by program) (start_of_run program keys) log
+    (same-code program sound) (start-holds program keys sound) n going).0
 
 pub overfull_meant : (free : Bool) (program : Assembled) (keys : List ℕ) (log : List Typed) (limit steps : ℕ) → IsSound program
     → IsOverfull (bytes (guard_of_run free program)) (start_of_run program keys) log limit steps

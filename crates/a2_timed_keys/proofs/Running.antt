@@ -1,5 +1,5 @@
 -- A machine in the middle of a run in which keys are typed.
-use Rattle.std.proofs.Common.{◌≡◌, ◌⊎◌, inl, inr, ℕ, suc, ◌+◌, ◌-◌, ◌^◌, ◌<◌, ◌≤◌, List, [], length, refl, sym, ap, ap₂, ◌∙◌, subst, arith, Some, None}
+use Rattle.std.proofs.Common.{◌≡◌, ◌≢◌, ◌⊎◌, inl, inr, ℕ, suc, ◌+◌, ◌-◌, ◌^◌, ◌<◌, ◌≤◌, List, [], length, refl, sym, ap, ap₂, ◌∙◌, subst, arith, Some, None}
 use Rattle.a2_bus.specs.View.{memory_of}
 use Rattle.a2_services.specs.World.{World}
 use Rattle.a2_machine.specs.declared.causes.Cause.{Cause}
@@ -19,26 +19,44 @@ waiting_is : (device : Device) → waiting (world_of_state device.state) ≡ len
 unfolding memory_of
 waiting_is device = refl
 
+-- as many keys wait in the world that a machine represents
+fit_here : (code : Code) (start : World) (log : List Typed) (n k : ℕ) (device : Device) → k ≡ n → world_of_state device.state ≡ world_with_keys code start log n
+    → length device.state.bus.devices.keys ≤ 4096 → waiting (world_with_keys code start log k) ≤ 4096
+fit_here code start log n k device e holds room =
+    subst (λ m. m ≤ 4096)
+    (sym (waiting_is device) ∙ ap (λ w. waiting w) holds ∙ ap (λ i. waiting (world_with_keys code start log i)) (sym e)) room
+
 -- at the start
 pub running_start : (old new : Device) (log : List Typed) (limit : ℕ) → old.state.steps ≡ 0 → new ≡ with_keys (keys_at log 0) old
-    → IsRunning (code_of old.state) (world_of_state old.state) log limit 0 new
-running_start old new log limit steps is = subst (λ (d : Device). IsRunning (code_of old.state) (world_of_state old.state) log limit 0 d) (sym is) (record {
-  within = omega arith;
-  steps = steps;
-  code_is = refl;
-  reached = keys_hold (keys_at log 0) old ∙ sym (world-start (code_of old.state) (world_of_state old.state) log);
-  first = λ k l. absurd (omega (arith, l));
-})
+    → length new.state.bus.devices.keys ≤ 4096 → IsRunning (code_of old.state) (world_of_state old.state) log limit 0 new
+running_start old new log limit steps is room =
+    let here : Device = with_keys (keys_at log 0) old in
+    let holds : world_of_state here.state ≡ world_with_keys (code_of old.state) (world_of_state old.state) log 0
+    = keys_hold (keys_at log 0) old ∙ sym (world-start (code_of old.state) (world_of_state old.state) log) in
+    let fits : length here.state.bus.devices.keys ≤ 4096 = subst (λ (d : Device). length d.state.bus.devices.keys ≤ 4096) is room in
+    subst (λ (d : Device). IsRunning (code_of old.state) (world_of_state old.state) log limit 0 d) (sym is) (record {
+      within = omega arith;
+      steps = steps;
+      code_is = refl;
+      reached = holds;
+      first = λ k l. absurd (omega (arith, l));
+      fit = λ k l some. fit_here (code_of old.state) (world_of_state old.state) log 0 k here (omega (arith, l)) holds fits;
+    })
+
+-- how many keys wait after those that are typed
+pub waiting_with : (code : Code) (start : World) (log : List Typed) (steps : ℕ) (device : Device)
+    → world_of_state device.state ≡ world_before_keys code start log steps
+    → waiting (world_with_keys code start log steps) ≡ length device.state.bus.devices.keys + length (keys_at log steps)
+waiting_with code start log steps device holds =
+    ap (λ w. waiting w) (world-typed code start log steps) ∙ waiting-typed (keys_at log steps) (world_before_keys code start log steps)
+    ∙ ap (λ w. waiting w + length (keys_at log steps)) (sym holds) ∙ ap (λ n. n + length (keys_at log steps)) (waiting_is device)
 
 overfull : (code : Code) (start : World) (log : List Typed) (limit steps : ℕ) (device : Device) → steps ≤ limit
     → ((k : ℕ) → k < steps → stuck code (world_with_keys code start log k) ≡ None)
     → world_of_state device.state ≡ world_before_keys code start log steps
     → 4096 < length device.state.bus.devices.keys + length (keys_at log steps) → IsOverfull code start log limit steps
 overfull code start log limit steps device within first holds full =
-    let count : waiting (world_with_keys code start log steps) ≡ length device.state.bus.devices.keys + length (keys_at log steps)
-    = ap (λ w. waiting w) (world-typed code start log steps) ∙ waiting-typed (keys_at log steps) (world_before_keys code start log steps)
-    ∙ ap (λ w. waiting w + length (keys_at log steps)) (sym holds) ∙ ap (λ n. n + length (keys_at log steps)) (waiting_is device) in
-    record { within = within; first = first; full = subst (λ n. 4096 < n) (sym count) full }
+    record { within = within; first = first; full = subst (λ n. 4096 < n) (sym (waiting_with code start log steps device holds)) full }
 
 pub overfull_start : (old : Device) (log : List Typed) (limit : ℕ) → 4096 < length old.state.bus.devices.keys + length (keys_at log 0)
     → IsOverfull (code_of old.state) (world_of_state old.state) log limit 0
@@ -46,8 +64,11 @@ unfolding world_before_keys
 overfull_start old log limit full =
     overfull (code_of old.state) (world_of_state old.state) log limit 0 old (omega arith) (λ k l. absurd (omega (arith, l))) refl full
 
-two : (m n : ℕ) → (m < n) ⊎ (n ≤ m)
+pub two : (m n : ℕ) → (m < n) ⊎ (n ≤ m)
 two m n = grind (arith)
+
+up_to : (m n : ℕ) → (m ≤ n) ⊎ (n < m)
+up_to m n = grind (arith)
 
 module _ (code : Code) (start : World) (log : List Typed) (limit made until : ℕ) (old new : Device) (cause : Cause)
     (low : limit < 2 ^ 32) (more : made < until) (within : until ≤ limit)
@@ -83,6 +104,10 @@ module _ (code : Code) (start : World) (log : List Typed) (limit made until : �
       ∙ ap₂ (λ c w. stuck c (world_at c w k)) (sym at.code_is) (sym at.reached)
       ∙ run.end.first k lt
 
+  fitting : (i : ℕ) → (i ≤ made) ⊎ (made < i) → i < until → keys_at log i ≢ [] → waiting (world_with_keys code start log i) ≤ 4096
+  fitting i (inl l) m some = at.fit i l some
+  fitting i (inr l) m some = absurd (some (none i l m))
+
   -- it reached the steps where keys are typed next
   came : until ≤ new.state.steps → count ≡ until - made
   came h = omega (arith, few, new_is, h, more)
@@ -94,17 +119,31 @@ module _ (code : Code) (start : World) (log : List Typed) (limit made until : �
       let whole : count ≡ suc j = omega (arith, came h, more) in
       reached_is ∙ ap (λ n. world_at code (world_with_keys code start log made) n) whole ∙ sym (before-more code start log made j until is none)
 
-  going_on : (after : Device) → until ≤ new.state.steps → after ≡ with_keys (keys_at log until) new → IsRunning code start log limit until after
-  going_on after h is = subst (λ (d : Device). IsRunning code start log limit until d) (sym is) (record {
-    within = within;
-    steps = omega (arith, new_is, came h, more);
-    code_is = new_code;
-    reached = keys_hold (keys_at log until) new ∙ ap (λ w. typed (keys_at log until) w) (before h) ∙ sym (world-typed code start log until);
-    first = λ k l. going k (two k made) (omega (arith, l, h));
-  })
+  going_on : (after : Device) → until ≤ new.state.steps → after ≡ with_keys (keys_at log until) new → length after.state.bus.devices.keys ≤ 4096
+      → IsRunning code start log limit until after
+  going_on after h is room =
+      let here : Device = with_keys (keys_at log until) new in
+      let holds : world_of_state here.state ≡ world_with_keys code start log until
+      = keys_hold (keys_at log until) new ∙ ap (λ w. typed (keys_at log until) w) (before h) ∙ sym (world-typed code start log until) in
+      let fits : length here.state.bus.devices.keys ≤ 4096 = subst (λ (d : Device). length d.state.bus.devices.keys ≤ 4096) is room in
+      subst (λ (d : Device). IsRunning code start log limit until d) (sym is) (record {
+        within = within;
+        steps = omega (arith, new_is, came h, more);
+        code_is = new_code;
+        reached = holds;
+        first = λ k l. going k (two k made) (omega (arith, l, h));
+        fit = λ k l some. last k (two k until) l some here holds fits;
+      })
+    where
+      last : (k : ℕ) → (k < until) ⊎ (until ≤ k) → k ≤ until → keys_at log k ≢ [] → (here : Device)
+          → world_of_state here.state ≡ world_with_keys code start log until → length here.state.bus.devices.keys ≤ 4096
+          → waiting (world_with_keys code start log k) ≤ 4096
+      last k (inl l) m some here holds fits = fitting k (up_to k made) l some
+      last k (inr l) m some here holds fits = fit_here code start log until k here (omega (arith, l, m)) holds fits
 
-  pub running_on : (after : Device) (due : ℕ) → due ≡ until → due ≤ new.state.steps → after ≡ with_keys (keys_at log due) new → IsRunning code start log limit until after
-  running_on after due e h is = going_on after (omega (arith, e, h)) (is ∙ ap (λ n. with_keys (keys_at log n) new) e)
+  pub running_on : (after : Device) (due : ℕ) → due ≡ until → due ≤ new.state.steps → after ≡ with_keys (keys_at log due) new
+      → length after.state.bus.devices.keys ≤ 4096 → IsRunning code start log limit until after
+  running_on after due e h is room = going_on after (omega (arith, e, h)) (is ∙ ap (λ n. with_keys (keys_at log n) new) e) room
 
   overfull_until : until ≤ new.state.steps → 4096 < length new.state.bus.devices.keys + length (keys_at log until)
       → IsOverfull code start log limit until
@@ -120,10 +159,13 @@ module _ (code : Code) (start : World) (log : List Typed) (limit made until : �
   pub stopped : new.state.steps < until → IsTypedStop code start log limit new.state cause
   unfolding count
   stopped h = record {
-    within = omega (arith, h, within);
-    reached = reached_is ∙ sym (with-more code start log made count new.state.steps new_is (λ k l g. none k l (omega (arith, g, h))));
-    first = λ k l. going k (two k made) l;
-    cause = go run.end.cause;
+    end = record {
+      within = omega (arith, h, within);
+      reached = reached_is ∙ sym (with-more code start log made count new.state.steps new_is (λ k l g. none k l (omega (arith, g, h))));
+      first = λ k l. going k (two k made) l;
+      cause = go run.end.cause;
+    };
+    fit = λ k l some. fitting k (up_to k made) (omega (arith, l, h)) some;
   }
     where
       go : (stuck (code_of old.state) (world_of_state new.state) ≡ Some cause)
@@ -137,10 +179,13 @@ module _ (code : Code) (start : World) (log : List Typed) (limit made until : �
 pub stopped_last : (code : Code) (start : World) (log : List Typed) (limit made : ℕ) (old new : Device) (cause : Cause) → limit ≤ made
     → IsMachineRun 0 old new cause → IsRunning code start log limit made old → IsTypedStop code start log limit new.state cause
 stopped_last code start log limit made old new cause all run at = record {
-  within = omega (arith, none, at.steps, at.within);
-  reached = ap (λ (d : Device). world_of_state d.state) same ∙ at.reached ∙ ap (λ n. world_with_keys code start log n) steps;
-  first = λ k l. at.first k (omega (arith, l, steps));
-  cause = go run.end.cause;
+  end = record {
+    within = omega (arith, none, at.steps, at.within);
+    reached = ap (λ (d : Device). world_of_state d.state) same ∙ at.reached ∙ ap (λ n. world_with_keys code start log n) steps;
+    first = λ k l. at.first k (omega (arith, l, steps));
+    cause = go run.end.cause;
+  };
+  fit = λ k l some. at.fit k (omega (arith, l, steps)) some;
 }
   where
     none : new.state.steps ≡ old.state.steps
@@ -178,6 +223,7 @@ with_limit code start log limit until made machine within at = record {
   code_is = at.code_is;
   reached = at.reached;
   first = at.first;
+  fit = at.fit;
 }
 
 -- by the code that it has
@@ -195,6 +241,7 @@ same_state code start log limit made a b e within steps is = record {
   code_is = ap (λ (s : MachineState). code_of s) e ∙ is.code_is;
   reached = ap (λ (s : MachineState). world_of_state s) e ∙ is.reached ∙ ap (λ n. world_with_keys code start log n) steps;
   first = λ k l. is.first k (omega (arith, l, steps));
+  fit = λ k l some. is.fit k (omega (arith, l, steps)) some;
 }
 
 pub copy_of : (code : Code) (start : World) (log : List Typed) (a b : Device) → b.state ≡ a.state → IsCopy code start log a → IsCopy code start log b
@@ -212,10 +259,8 @@ is_copy code start log limit made machine at =
 pub stopped_early : (code : Code) (start : World) (log : List Typed) (limit until : ℕ) (state : MachineState) (cause : Cause) → until ≤ limit
     → state.steps < until → IsTypedStop code start log until state cause → IsTypedStop code start log limit state cause
 stopped_early code start log limit until state cause within early is = record {
-  within = omega (arith, within, early);
-  reached = is.reached;
-  first = is.first;
-  cause = go is.cause;
+  end = record { within = omega (arith, within, early); reached = is.end.reached; first = is.end.first; cause = go is.end.cause };
+  fit = is.fit;
 }
   where
     go : (stuck code (world_of_state state) ≡ Some cause)

@@ -1,5 +1,5 @@
 -- The worlds of a run in which keys are typed.
-use Rattle.std.proofs.Common.{◌≡◌, ℕ, zero, suc, ◌+◌, ◌-◌, ◌<◌, ◌≤◌, List, [], ◌++◌, length, refl, ap, ◌∙◌, arith, append_assoc, length-append}
+use Rattle.std.proofs.Common.{◌≡◌, ℕ, zero, suc, ◌+◌, ◌<◌, ◌≤◌, List, [], ◌++◌, length, refl, ap, ◌∙◌, arith, append_assoc, length-append}
 use Rattle.std.proofs.lemmas.List.{append-nil}
 use Rattle.a2_services.specs.World.{World}
 use Rattle.a2_machine.specs.Meaning.{Code, next, world_at}
@@ -43,7 +43,7 @@ module _ (code : Code) (start : World) (log : List Typed) where
   pub world-none : (n : ℕ) → keys_at log n ≡ [] → world_with_keys code start log n ≡ world_before_keys code start log n
   world-none n e = world-typed n ∙ ap (λ ks. typed ks (world_before_keys code start log n)) e ∙ typed-nil (world_before_keys code start log n)
 
-  world-next : (n : ℕ) → world_before_keys code start log (suc n) ≡ next code (world_with_keys code start log n)
+  pub world-next : (n : ℕ) → world_before_keys code start log (suc n) ≡ next code (world_with_keys code start log n)
   unfolding world_with_keys world_before_keys
   world-next n = refl
 

@@ -7,7 +7,7 @@ use Rattle.a2_machine.specs.State.{Device}
 use Rattle.a2_run.specs.Meaning.{start_of_run}
 use Rattle.a2_run.specs.Started.{guard_of_run}
 use Rattle.a2_timed_keys.specs.declared.strokes.Typed.{Typed}
-use Rattle.a2_timed_keys.specs.Typed.{AreCopies, IsTypedRun}
+use Rattle.a2_timed_keys.specs.Typed.{AreCopies, IsTypedRun, IsTypedStop}
 
 -- what ran, with which keys, limit and guard, and what the run left
 pub record Finished : Type 0 where
@@ -22,6 +22,10 @@ pub record Finished : Type 0 where
 -- the machine is where the run ends, by its cause
 abbrev pub IsFinished : Finished → Type 0
 IsFinished f = IsTypedRun f.program f.keys f.log f.limit f.free f.machine.state f.cause
+
+-- the same of the run of the bytes that the guard keeps. No public clause cites it.
+abbrev pub IsStopped : Finished → Type 0
+IsStopped f = IsTypedStop (bytes (guard_of_run f.free f.program)) (start_of_run f.program f.keys) f.log f.limit f.machine.state f.cause
 
 -- two machines, if they are there, are copies of the machine of the run
 abbrev pub AreItsCopies : Finished → Option Device → Option Device → Type 0

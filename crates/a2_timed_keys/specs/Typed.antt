@@ -1,5 +1,5 @@
 -- Runs in which keys are typed after given steps. This project's profile.
-use Rattle.std.specs.Prelude.{◌≡◌, ◌⊎◌, ℕ, zero, suc, ◌<◌, ◌≤◌, ◌==◌, Bool, List, [], ◌∷◌, length, map, Option, Some, None, IfSome, if◌then◌else◌}
+use Rattle.std.specs.Prelude.{◌≡◌, ◌≢◌, ◌⊎◌, ℕ, zero, suc, ◌<◌, ◌≤◌, ◌==◌, Bool, List, [], ◌∷◌, length, map, Option, Some, None, IfSome, if◌then◌else◌}
 use Rattle.a2_asm.specs.Assembled.{Assembled}
 use Rattle.a2_bus.specs.Devices.{keys_typed}
 use Rattle.a2_bus.specs.Memory.{Memory}
@@ -51,10 +51,15 @@ pub record IsTypedEnd (code : Code) (start : World) (log : List Typed) (limit : 
   pub cause : (stuck code end.world ≡ Some end.cause)
       ⊎ ((stuck code end.world ≡ None) × (end.steps ≡ limit) × (end.cause ≡ Limit))
 
+-- wherever keys are typed in the first steps of a run, they fit: at most 4,096 wait
+abbrev pub KeysFit : Code → World → List Typed → ℕ → Type 0
+KeysFit code start log n =
+    (k : ℕ) → k ≤ n → keys_at log k ≢ [] → length (world_with_keys code start log k).memory.devices.keys ≤ 4096
+
 -- a machine is where such a run ends
-abbrev pub IsTypedStop : Code → World → List Typed → ℕ → MachineState → Cause → Type 0
-IsTypedStop code start log limit state cause =
-    IsTypedEnd code start log limit (record { world = world_of_state state; steps = state.steps; cause = cause })
+pub record IsTypedStop (code : Code) (start : World) (log : List Typed) (limit : ℕ) (state : MachineState) (cause : Cause) : Type 0 where
+  pub end : IsTypedEnd code start log limit (record { world = world_of_state state; steps = state.steps; cause = cause })
+  pub fit : KeysFit code start log state.steps
 
 -- a machine is in the middle of such a run, after so many steps, with the keys that are typed there
 pub record IsRunning (code : Code) (start : World) (log : List Typed) (limit made : ℕ) (machine : Device) : Type 0 where
@@ -63,6 +68,7 @@ pub record IsRunning (code : Code) (start : World) (log : List Typed) (limit mad
   pub code_is : code_of machine.state ≡ code
   pub reached : world_of_state machine.state ≡ world_with_keys code start log made
   pub first : (k : ℕ) → k < made → stuck code (world_with_keys code start log k) ≡ None
+  pub fit : KeysFit code start log made
 
 -- a copy of a machine that was in the middle of such a run
 abbrev pub IsCopy : Code → World → List Typed → Device → Type 0

@@ -41,7 +41,7 @@ impl<A: Allocator + Copy> Earlier<A> {
     }
 }
 
-impl<A: Allocator> Earlier<A> {
+impl<A: Allocator + Copy> Earlier<A> {
     /// No copies.
     pub(crate) fn new() -> Earlier<A>
         ensures older { result.older ≡ None }

@@ -1,25 +1,27 @@
 //! A finished run.
 
-ghost use Rattle.std.specs.Prelude.{◌≡◌, ◌-◌, ◌<◌, ◌≤◌, All, IfOk, IfErr};
+ghost use Rattle.std.specs.Prelude.{◌≡◌, ◌<◌, ◌≤◌, All, IfOk, IfErr};
 ghost use Rattle.a2_machine.specs.ByteRun.{bytes};
-ghost use Rattle.a2_machine.specs.declared.causes.Cause.{Cause};
+ghost use Rattle.a2_machine.specs.Looks.{observer_after};
 ghost use Rattle.a2_machine.specs.State.{code_of, world_of_state};
 ghost use Rattle.a2_run.specs.Meaning.{start_of_run};
 ghost use Rattle.a2_run.specs.Started.{guard_of_run};
-ghost use Rattle.a2_timed_keys.specs.Typed.{AreCopies, IsOverfull, IsRunning, IsTypedFault, IsTypedRun, IsTypedStop};
-ghost use Rattle.a2_timed_keys.specs.Finished.{IsFinished};
+ghost use Rattle.a2_timed_keys.specs.Typed.{AreCopies, IsOverfull, IsRunning, IsTypedFault, IsTypedStop};
+ghost use Rattle.a2_timed_keys.specs.Finished.{IsFinished, IsStopped};
+ghost use Rattle.a2_timed_keys.specs.Rerun.{shown_in, worlds_of, end_of};
 
 use crate::earlier::Earlier;
-use crate::run::{TypedFault, run_on};
+use crate::run::{TypedFault, run_observed, run_on};
 use crate::strokes::{Strokes, Typed, type_due};
 use a2_asm::Program;
+use a2_burst::Observer;
 use a2_machine::{Cause, Machine};
 use a2_run::{RunArgs, started};
 use std::alloc::{AllocError, Allocator, Global};
 use std::marker::Model;
 
-/// How many steps are between two copies of the machine of a run. A copy takes as long as some thousands of steps.
-const BETWEEN_COPIES: u32 = 1 << 18;
+/// How many steps are at least between two copies of the machine of a run. A copy takes as long as some thousands of steps.
+const BETWEEN_COPIES: u32 = 1 << 15;
 
 /// How a program is run when keys are typed on the way.
 #[derive(Clone, Copy)]
@@ -30,7 +32,7 @@ pub struct TimedArgs<'a, A: Allocator = Global> {
 }
 
 /// A finished run of a program: the machine as the run left it, and the cause of its end. To go back to the last steps takes no
-/// second run from the start, because the run kept copies of its machine on the way.
+/// second run from the start, because the run kept copies of its machine on the way: see [`Ended::again`].
 pub struct Ended<'a, A: Allocator = Global> {
     program: &'a Program<A>,
     args: TimedArgs<'a, A>,
@@ -41,7 +43,7 @@ pub struct Ended<'a, A: Allocator = Global> {
 
 impl<'a, A: Allocator> Model for Ended<'a, A> {
     ghost use Rattle.std.specs.Prelude.{◌<◌};
-    ghost use Rattle.a2_timed_keys.specs.Finished.{Finished, IsFinished, AreItsCopies};
+    ghost use Rattle.a2_timed_keys.specs.Finished.{Finished, IsStopped, AreItsCopies};
 
     ghost Value = { Finished };
 
@@ -64,7 +66,7 @@ impl<'a, A: Allocator> Model for Ended<'a, A> {
       machine = e.machine;
       cause = e.cause;
     } in
-        IsFinished f × AreItsCopies f e.earlier.older e.earlier.newer × (f.limit < 4_294_967_296) };
+        IsStopped f × AreItsCopies f e.earlier.older e.earlier.newer × (f.limit < 4_294_967_296) };
 }
 
 // Not derived, for the prover alone: it follows this as one call, and a derived one field by field.
@@ -80,13 +82,13 @@ impl<'a, A: Allocator> Drop for Ended<'a, A> {
     }
 }
 
-// Returns the steps after which the next copy is kept, at most `limit`.
+// Returns the steps after which the next copy is kept, at most `limit`. The longer the run, the farther it is from the copy before.
 fn next_copy(made: u32, limit: u32) -> u32
     requires { made < limit }
     ensures more { made < result }
     ensures within { result ≤ limit }
 {
-    made.saturating_add(BETWEEN_COPIES).min(limit)
+    made.saturating_add(BETWEEN_COPIES.max(made / 4)).min(limit)
 }
 
 // Runs a machine from its start, types keys after their steps, and keeps copies of the machine. Returns the cause of the run's end with
@@ -157,8 +159,8 @@ impl<'a, A: Allocator + Copy> Ended<'a, A> {
         }
     }
 
-    // Returns a machine in the middle of the run, after at most so many steps.
-    fn resumed(&self, alloc: A, until: u64) -> Result<Machine<A>, AllocError>
+    /// Returns a machine in the middle of the run, after at most so many steps.
+    pub(crate) fn resumed(&self, alloc: A, until: u64) -> Result<Machine<A>, AllocError>
         ensures { IfOk result (λ machine. IsRunning (bytes (guard_of_run self.now.free self.now.program))
             (start_of_run self.now.program self.now.keys) self.now.log until machine.state.steps machine) }
     {
@@ -176,36 +178,64 @@ impl<'a, A: Allocator + Copy> Ended<'a, A> {
         }
     }
 
-    /// Returns the machine as it was so many steps before the end of the run, or at the start of a shorter run. At most about
-    /// 500,000 steps are repeated for this. Fails only if there is not enough memory.
-    pub fn before_end(&self, alloc: A, steps: u32) -> Result<Machine<A>, AllocError>
-        ensures { IfOk result (λ machine. (cause : Cause) × IsTypedRun self.now.program self.now.keys self.now.log
-            (self.now.machine.state.steps - steps) self.now.free machine.state cause) }
+    /// Runs `program` as [`Ended::of`] does, and shows each step to `observer`.
+    pub fn observed<O: Observer>(
+        alloc: A,
+        program: &'a Program<A>,
+        args: TimedArgs<'a, A>,
+        observer: &mut O,
+    ) -> Result<Ended<'a, A>, TypedFault>
+        ensures run { IfOk result (λ ended. (ended.program ≡ program.now) × (ended.keys ≡ args.entry.run.keys.now)
+            × (ended.log ≡ args.entry.strokes.now) × (ended.limit ≡ args.entry.run.limit) × (ended.free ≡ args.entry.run.free)) }
+        ensures ended { IfOk result (λ ended. IsFinished ended) }
+        ensures refused { IfErr result (λ fault. IsTypedFault program.now args.entry.run.keys.now args.entry.strokes.now
+            args.entry.run.limit args.entry.run.free fault) }
+        ensures seen { IfOk result (λ ended. observer.new ≡ observer_after O.seen (shown_in (worlds_of ended)) observer.old
+            (end_of ended).steps) }
     {
         // For the prover alone: a law of every program, by which the guarded bytes run as its statements.
-        self.program.is_sound();
-        let until = self.machine.steps().saturating_sub(u64::from(steps));
-        let mut machine = self.resumed(alloc, until)?;
-        let made = machine.steps() as u32;
-        match run_on(
+        program.is_sound();
+        let mut machine = started(alloc, program, args.run.keys, args.run.free)?;
+        match run_observed(
             &mut machine,
-            self.args.strokes.as_slice(),
-            made,
-            until as u32,
+            args.strokes.as_slice(),
+            args.run.limit,
+            observer,
         ) {
-            Ok(_) => Ok(machine),
-            // The run has an end, so the keys do fit.
-            Err(_) => Err(AllocError),
+            Ok(cause) => Ok(Ended {
+                program,
+                args,
+                machine,
+                cause,
+                earlier: Earlier::new(),
+            }),
+            Err(due) => Err(TypedFault::Full(due)),
         }
     }
 }
 
-impl<'a, A: Allocator> Ended<'a, A> {
+impl<'a, A: Allocator + Copy> Ended<'a, A> {
     /// Returns the program that ran.
     pub fn program(&self) -> &'a Program<A>
         ensures { result.now ≡ self.now.program }
     {
         self.program
+    }
+
+    /// Law: the machine is where the run ends, by its cause.
+    pub fn is_finished(&self)
+        ensures { IsFinished self.now }
+    {
+        // For the prover alone: a law of every program, by which the guarded bytes run as its statements.
+        self.program.is_sound();
+    }
+
+    /// For the prover alone, a law: the machine is where the run of the guarded bytes ends, after few steps.
+    pub(crate) fn is_stopped(&self)
+        ensures stopped { IsStopped self.now }
+        ensures few { self.now.machine.state.steps < 4_294_967_296 }
+    {
+        let _ = &self.machine;
     }
 
     /// Returns the keys that were to be typed on the way.

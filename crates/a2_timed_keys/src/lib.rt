@@ -7,12 +7,16 @@ ghost use Rattle.a2_timed_keys.specs.Typed.{NoKeysAreARun};
 
 mod earlier;
 mod ended;
+mod record;
+mod rerun;
 mod run;
 mod shown;
 mod strokes;
 mod words;
 
 pub use ended::{Ended, TimedArgs};
+pub use record::{Record, RecordFault, put_record, record_of};
+pub use rerun::Rerun;
 pub use run::TypedFault;
 pub use shown::show;
 pub use strokes::{Strokes, Typed};

@@ -2,10 +2,13 @@
 
 ghost use Rattle.std.specs.Prelude.{◌≡◌, ◌+◌, ◌<◌, ◌≤◌, ◌^◌, ◌∷◌, [], ℕ, All, IfOk, IfErr};
 ghost use Rattle.a2_services.specs.World.{World};
-ghost use Rattle.a2_machine.specs.State.{code_of};
-ghost use Rattle.a2_timed_keys.specs.Typed.{keys_at, IsOverfull, IsRunning, IsTypedStop};
+ghost use Rattle.a2_machine.specs.Looks.{observer_after};
+ghost use Rattle.a2_machine.specs.State.{code_of, world_of_state};
+ghost use Rattle.a2_timed_keys.specs.Rerun.{shown_in};
+ghost use Rattle.a2_timed_keys.specs.Typed.{keys_at, world_with_keys, IsOverfull, IsRunning, IsTypedStop};
 
 use crate::strokes::{Typed, type_due};
+use a2_burst::Observer;
 use a2_machine::{Cause, Machine};
 use std::alloc::{AllocError, Allocator};
 
@@ -44,8 +47,8 @@ fn sooner(stroke: Typed, made: u32, until: u32) -> u32
     stroke.steps as u32
 }
 
-// Returns the greatest number of steps, more than `made` and at most `limit`, before which no key is typed.
-fn next_due(typed: &[Typed], made: u32, limit: u32) -> u32
+/// Returns the greatest number of steps, more than `made` and at most `limit`, before which no key is typed.
+pub(crate) fn next_due(typed: &[Typed], made: u32, limit: u32) -> u32
     requires { made < limit }
     ensures more { made < result }
     ensures within { result ≤ limit }
@@ -60,7 +63,7 @@ fn next_due(typed: &[Typed], made: u32, limit: u32) -> u32
 
 /// Runs a machine on that has executed `begun` steps since its start, with the keys of these steps typed, and types keys after
 /// their steps. Returns the cause of the run's end, or the steps after which the keys do not fit.
-pub(crate) fn run_on<A: Allocator>(
+pub(crate) fn run_on<A: Allocator + Copy>(
     machine: &mut Machine<A>,
     typed: &[Typed],
     begun: u32,
@@ -82,6 +85,44 @@ pub(crate) fn run_on<A: Allocator>(
     while made < limit {
         let until = next_due(typed, made, limit);
         let cause = machine.run(until - made);
+        let due = u64::from(until);
+        if machine.steps() < due {
+            return Ok(cause);
+        }
+        if !type_due(machine, typed, due) {
+            return Err(due);
+        }
+        made = until;
+    }
+    Ok(machine.run(0))
+}
+
+/// Runs a machine from its start as [`run_on`] does, and shows each step to `observer`.
+pub(crate) fn run_observed<A: Allocator + Copy, O: Observer>(
+    machine: &mut Machine<A>,
+    typed: &[Typed],
+    limit: u32,
+    observer: &mut O,
+) -> Result<Cause, u64>
+    requires codes { All (λ t. t.key < 128) typed.now }
+    requires start { machine.old.state.steps ≡ 0 }
+    ensures stopped { IfOk result (λ cause. IsTypedStop (code_of machine.old.state)
+        (world_of_state machine.old.state) typed.now limit machine.new.state cause) }
+    ensures full { IfErr result (λ steps. IsOverfull (code_of machine.old.state)
+        (world_of_state machine.old.state) typed.now limit steps) }
+    ensures seen { IfOk result (λ _. observer.new ≡ observer_after O.seen
+        (shown_in (world_with_keys (code_of machine.old.state) (world_of_state machine.old.state) typed.now))
+        observer.old machine.new.state.steps) }
+    // For the prover alone: a caller has the number in a field, whose range is not known there.
+    ensures range { limit < 4_294_967_296 }
+{
+    let mut made = 0;
+    if !type_due(machine, typed, 0) {
+        return Err(0);
+    }
+    while made < limit {
+        let until = next_due(typed, made, limit);
+        let cause = machine.run_observed(until - made, observer);
         let due = u64::from(until);
         if machine.steps() < due {
             return Ok(cause);

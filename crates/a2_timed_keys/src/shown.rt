@@ -13,7 +13,7 @@ use a2_stream::{Output, WriteFault};
 use std::alloc::Allocator;
 
 // Writes the picture.
-fn put_picture<A: Allocator, W: Output>(
+fn put_picture<A: Allocator + Copy, W: Output>(
     machine: &Machine<A>,
     writer: &mut W,
 ) -> Result<(), WriteFault>
@@ -24,7 +24,7 @@ fn put_picture<A: Allocator, W: Output>(
 
 // Writes the register line and the cause line.
 #[tactic(auto, using(a2_stream::proofs::Joined::broke_off, a2_stream::proofs::Joined::went_on))]
-fn put_lines<A: Allocator, W: Output>(
+fn put_lines<A: Allocator + Copy, W: Output>(
     machine: &Machine<A>,
     cause: Cause,
     writer: &mut W,
@@ -39,7 +39,7 @@ fn put_lines<A: Allocator, W: Output>(
 /// Writes what a run shows that left `machine` by `cause`, as `a2_run` does: the picture, the register line and the cause line.
 /// Fails if a write fails: no further write follows, and a front of this was written.
 #[tactic(auto, using(a2_stream::proofs::Joined::broke_off, a2_stream::proofs::Joined::went_on))]
-pub fn show<A: Allocator, W: Output>(
+pub fn show<A: Allocator + Copy, W: Output>(
     machine: &Machine<A>,
     cause: Cause,
     writer: &mut W,

@@ -1,6 +1,6 @@
 //! Keys that are typed after given steps.
 
-ghost use Rattle.std.specs.Prelude.{◌≡◌, ◌+◌, ◌<◌, ◌++◌, ◌∷◌, [], true, false, All, length, OnOk};
+ghost use Rattle.std.specs.Prelude.{◌≡◌, ◌+◌, ◌<◌, ◌≤◌, ◌++◌, ◌∷◌, [], true, false, All, length, OnOk};
 ghost use Rattle.a2_timed_keys.specs.Typed.{keys_at, typed_after, with_keys};
 
 use a2_bus::Keys;
@@ -34,7 +34,7 @@ impl<A: Allocator> Model for Strokes<A> {
 }
 
 // Adds keys that are typed after so many steps.
-fn note_keys<A: Allocator>(
+fn note_keys<A: Allocator + Copy>(
     typed: &mut Vec<Typed, A>,
     steps: u64,
     keys: &[u8],
@@ -51,7 +51,7 @@ fn note_keys<A: Allocator>(
 }
 
 // Types a key if it is one of these steps. Returns whether there was room.
-fn type_stroke<A: Allocator>(machine: &mut Machine<A>, stroke: Typed, steps: u64) -> bool
+fn type_stroke<A: Allocator + Copy>(machine: &mut Machine<A>, stroke: Typed, steps: u64) -> bool
     requires { stroke.key < 128 }
     ensures typed { result ≡ true → machine.new ≡ with_keys (keys_at (stroke ∷ []) steps) machine.old }
     ensures full { result ≡ false → 4096 < length machine.old.state.bus.devices.keys + length (keys_at (stroke ∷ []) steps) }
@@ -63,20 +63,29 @@ fn type_stroke<A: Allocator>(machine: &mut Machine<A>, stroke: Typed, steps: u64
 }
 
 /// Types the keys of these steps, if there is room for all of them. Returns whether there was.
-pub(crate) fn type_due<A: Allocator>(machine: &mut Machine<A>, typed: &[Typed], steps: u64) -> bool
+pub(crate) fn type_due<A: Allocator + Copy>(
+    machine: &mut Machine<A>,
+    typed: &[Typed],
+    steps: u64,
+) -> bool
     requires { All (λ t. t.key < 128) typed.now }
     ensures typed { result ≡ true → machine.new ≡ with_keys (keys_at typed.now steps) machine.old }
+    ensures room { result ≡ true → length machine.new.state.bus.devices.keys ≤ 4096 }
     ensures full { result ≡ false → 4096 < length machine.old.state.bus.devices.keys + length (keys_at typed.now steps) }
+    ensures before { length machine.old.state.bus.devices.keys ≤ 4096 }
 {
+    // For the prover alone: a law of every machine, that no more keys wait.
+    let _ = machine.space().waiting();
     for stroke in typed {
         if !type_stroke(machine, *stroke, steps) {
             return false;
         }
     }
+    let _ = machine.space().waiting();
     true
 }
 
-impl<A: Allocator> Strokes<A> {
+impl<A: Allocator + Copy> Strokes<A> {
     /// Returns an empty list.
     pub fn new(alloc: A) -> Strokes<A>
         ensures { result ≡ [] }
@@ -94,6 +103,15 @@ impl<A: Allocator> Strokes<A> {
         note_keys(&mut self.typed, u64::from(steps), keys.bytes())
     }
 
+    /// Adds a key, after keys that were added for the same steps. Fails only if there is not enough memory.
+    pub(crate) fn note(&mut self, typed: Typed) -> Result<(), AllocError>
+        requires { typed.key < 128 }
+        ensures { OnOk result (self.new ≡ self.old ++ typed ∷ []) }
+    {
+        self.typed.push(typed)?;
+        Ok(())
+    }
+
     /// Returns the keys in the order in which they were added, each from 0 to 127.
     pub fn as_slice(&self) -> &[Typed]
         ensures keys { result.now ≡ self.now }
@@ -104,7 +122,7 @@ impl<A: Allocator> Strokes<A> {
 
     /// Types at a machine the keys of the steps that it has executed since its start, if there is room for all of them. Returns
     /// whether there was.
-    pub fn type_due<B: Allocator>(&self, machine: &mut Machine<B>) -> bool
+    pub fn type_due<B: Allocator + Copy>(&self, machine: &mut Machine<B>) -> bool
         ensures typed { result ≡ true → machine.new ≡ with_keys (keys_at self.now machine.old.state.steps) machine.old }
         ensures full { result ≡ false → 4096 < length machine.old.state.bus.devices.keys + length
             (keys_at self.now machine.old.state.steps) }

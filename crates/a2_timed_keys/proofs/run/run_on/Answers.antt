@@ -31,7 +31,7 @@ loop-made-preserved g c = λ start at.
     c.next_due-until.result c.loop-made.machine c.run-cause.new.self c.run-cause.result c.ranges.limit.fits c.next_due-until.ensures.more
     c.next_due-until.ensures.within c.next_due-until.ensures.none c.run-cause.ensures (c.loop-made.invariant start at)
     c.type_due.new.machine c.from-due.result c.from-due.ensures (omega (arith, c.if-steps-due.false, c.steps.ensures))
-    (c.type_due.ensures.typed c.if-not-type_due.false)
+    (c.type_due.ensures.typed c.if-not-type_due.false) (c.type_due.ensures.room c.if-not-type_due.false)
 
 pub returns-clause-stopped : goal.returns-clause-stopped
 returns-clause-stopped g c = λ start at.

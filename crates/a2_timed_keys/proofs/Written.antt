@@ -5,7 +5,7 @@ use Rattle.std.proofs.lemmas.List.{append_assoc, append-nil, drop_more, drop_all
 use Rattle.a2_stream.specs.Stream.{Taker, SendsOrBreaks}
 use Rattle.a2_page.proofs.Sending.{IsLeft, left_more, left_none, left_broken}
 use Rattle.a2_timed_keys.specs.declared.strokes.Typed.{Typed}
-use Rattle.a2_play.specs.Records.{key_line, end_line, key_lines, record_text}
+use Rattle.a2_timed_keys.specs.Records.{key_line, end_line, key_lines, record_text}
 
 -- the next key's line, and the rest
 pub text-next : (log : List Typed) (end i : ℕ) (d : Typed) → i < length log

@@ -1,7 +1,7 @@
 use Rattle.std.proofs.Common.{drop}
 use Rattle.a2_page.proofs.Sending.{IsLeft}
-use Rattle.a2_play.specs.Records.{record_text}
-use Rattle.a2_play.proofs.record.put_record.Given as goal
+use Rattle.a2_timed_keys.specs.Records.{record_text}
+use Rattle.a2_timed_keys.proofs.record.put_record.Given as goal
 
 -- the lines so far went out
 abbrev pub invariant-loop-typed : goal.invariant-loop-typed

@@ -1,6 +1,6 @@
 use Rattle.a2_page.proofs.Sending.{left_all, left_more, left_broke_off}
-use Rattle.a2_play.proofs.Written.{text-next, text-last, left_last}
-use Rattle.a2_play.proofs.record.put_record.Goals as goal
+use Rattle.a2_timed_keys.proofs.Written.{text-next, text-last, left_last}
+use Rattle.a2_timed_keys.proofs.record.put_record.Goals as goal
 
 pub loop-typed-init : goal.loop-typed-init
 loop-typed-init g c = left_all _ _

@@ -2,17 +2,19 @@
 
 ghost use Rattle.std.specs.Prelude.{◌≡◌, ◌<◌, ◌++◌, IfOk, IfSome};
 ghost use Rattle.a2_stream.specs.Stream.{SendsOrBreaks};
-ghost use Rattle.a2_play.specs.Records.{key_line, end_line, record_text};
+ghost use Rattle.a2_timed_keys.specs.Records.{key_line, end_line, record_text};
 
+use crate::strokes::{Strokes, Typed};
 use a2_stream::{Output, WriteFault, put, put_all};
 use a2_text::{cut, decimal, first_word, hex_pair, number_in};
-use a2_timed_keys::Typed;
 use std::alloc::{AllocError, Allocator, Global};
 
 /// What was typed in a session, and how many steps it ran.
 #[derive(Drop)]
 pub struct Record<A: Allocator = Global> {
-    pub log: Vec<Typed, A>,
+    /// The keys, each with the steps after which it was typed.
+    pub log: Strokes<A>,
+    /// How many steps the session ran.
     pub end: u64,
 }
 
@@ -26,7 +28,7 @@ pub enum RecordFault {
 }
 
 impl From<AllocError> for RecordFault {
-    ghost use Rattle.a2_play.specs.declared.record.RecordFault.TheVariants.{Memory};
+    ghost use Rattle.a2_timed_keys.specs.declared.record.RecordFault.TheVariants.{Memory};
 
     ghost from_gives = { λ _ e. e ≡ Memory };
 
@@ -115,16 +117,10 @@ fn end_in(line: &[u8]) -> Option<u64> {
     }
 }
 
-// Logs a key.
-fn note<A: Allocator>(log: &mut Vec<Typed, A>, typed: Typed) -> Result<(), AllocError> {
-    log.push(typed)?;
-    Ok(())
-}
-
 /// Returns the contents of a record. Fails if a line is not one of a record, or if memory is short.
 pub fn record_of<A: Allocator + Copy>(alloc: A, text: &[u8]) -> Result<Record<A>, RecordFault> {
     let lines = cut(alloc, text)?;
-    let mut log = Vec::new(alloc);
+    let mut log = Strokes::new(alloc);
     for (number, line) in lines.as_slice().iter().enumerate() {
         if let Some(end) = end_in(line) {
             return if number + 1 == lines.len() {
@@ -134,7 +130,7 @@ pub fn record_of<A: Allocator + Copy>(alloc: A, text: &[u8]) -> Result<Record<A>
             };
         }
         match typed_in(line) {
-            Some(typed) => note(&mut log, typed)?,
+            Some(typed) => log.note(typed)?,
             None => return Err(RecordFault::Line(number + 1)),
         }
     }

@@ -1,0 +1,78 @@
+-- What an observer sees of a run in which keys are typed.
+use Rattle.std.specs.Prelude.{nat_lt, if◌then◌else◌}
+use Rattle.std.proofs.Common.{◌≡◌, ℕ, zero, suc, ◌+◌, ◌-◌, ◌<◌, ◌≤◌, List, [], refl, sym, ap, ap₂, ◌∙◌, arith, Option, Some, None}
+use Rattle.a2_bus.specs.Memory.{Memory, peek, ram_end}
+use Rattle.a2_burst.specs.Shown.{Shown}
+use Rattle.a2_services.specs.World.{World}
+use Rattle.a2_machine.specs.declared.causes.Cause.{Cause}
+use Rattle.a2_machine.specs.Looks.{shown_between, shown_at, observer_after}
+use Rattle.a2_machine.specs.Meaning.{Code}
+use Rattle.a2_machine.specs.State.{Device, world_of_state, code_of, IsMachineRun}
+use Rattle.a2_timed_keys.specs.declared.strokes.Typed.{Typed}
+use Rattle.a2_timed_keys.specs.Typed.{keys_at, keys_typed_in, typed, world_before_keys, world_with_keys, IsRunning}
+use Rattle.a2_timed_keys.specs.Rerun.{shown_in}
+use Rattle.a2_timed_keys.proofs.Meant.{same_byte}
+use Rattle.a2_timed_keys.proofs.Worlds.{world-typed, before-more, with-more}
+
+-- keys change no byte that is shown
+same_bytes : (keys : List ℕ) (memory : Memory) → peek (keys_typed_in keys memory) ≡ peek memory
+same_bytes keys memory = λ i a. ap (λ (byte : ℕ). if nat_lt a ram_end then Some byte else None) (same_byte keys memory a) i
+
+-- so a step is shown as if none were typed after it
+same_look : (keys : List ℕ) (from to : World) → shown_between from (typed keys to) ≡ shown_between from to
+unfolding typed
+same_look keys from to =
+    let shown : Shown = shown_between from to in
+    ap (λ (ram : ℕ → Option ℕ). let s : Shown = record shown { ram = ram } in s) (same_bytes keys to.memory)
+
+-- between steps after which keys are typed, the steps are shown that a machine shows
+shown_from : (code : Code) (start : World) (log : List Typed) (made until j : ℕ) → ((k : ℕ) → made < k → k < until → keys_at log k ≡ [])
+    → made + j < until → shown_at code (world_with_keys code start log made) j ≡ shown_in (world_with_keys code start log) (made + j)
+shown_from code start log made until j none low =
+    let from : World = world_with_keys code start log (made + j) in
+    let next : suc (made + j) ≡ made + suc j = omega arith in
+    ap₂ (λ (a b : World). shown_between a b)
+    (sym (with-more code start log made j (made + j) refl (λ k l h. none k l (omega (arith, h, low)))))
+    (sym (before-more code start log made j (suc (made + j)) next (λ k l h. none k l (omega (arith, h, low)))))
+    ∙ sym (same_look (keys_at log (suc (made + j))) from (world_before_keys code start log (suc (made + j))))
+    ∙ ap (λ (w : World). shown_between from w) (sym (world-typed code start log (suc (made + j))))
+
+-- steps that are shown after others
+following : {O : Type 0} (seen : O → Shown → O) (f g : ℕ → Shown) (o : O) (m n : ℕ) → ((j : ℕ) → j < n → f j ≡ g (m + j))
+    → observer_after seen f (observer_after seen g o m) n ≡ observer_after seen g o (m + n)
+unfolding observer_after
+following seen f g o m zero same = let e : m ≡ m + 0 = omega arith in ap (λ (i : ℕ). observer_after seen g o i) e
+following {O} seen f g o m (suc n) same =
+    let e : suc (m + n) ≡ m + suc n = omega arith in
+    ap₂ (λ (x : O) (s : Shown). seen x s) (following seen f g o m n (λ j l. same j (omega (arith, l)))) (same n (omega arith))
+    ∙ ap (λ (i : ℕ). observer_after seen g o i) e
+
+-- the same steps are shown
+pub alike : {O : Type 0} (seen : O → Shown → O) (f g : ℕ → Shown) (o : O) (n : ℕ) → ((j : ℕ) → j < n → f j ≡ g j)
+    → observer_after seen f o n ≡ observer_after seen g o n
+unfolding observer_after
+alike seen f g o zero same = refl
+alike {O} seen f g o (suc n) same =
+    ap₂ (λ (x : O) (s : Shown). seen x s) (alike seen f g o n (λ j l. same j (omega (arith, l)))) (same n (omega arith))
+
+pub none_seen : {O : Type 0} (seen : O → Shown → O) (shown : ℕ → Shown) (o : O) → o ≡ observer_after seen shown o 0
+unfolding observer_after
+none_seen seen shown o = refl
+
+-- an observer that saw the first steps has seen those of the next part of the run too
+pub seen_on : {O : Type 0} (seen : O → Shown → O) (code : Code) (start : World) (log : List Typed) (limit made until : ℕ) (old new : Device) (cause : Cause)
+    → ((k : ℕ) → made < k → k < until → keys_at log k ≡ []) → IsMachineRun (until - made) old new cause → IsRunning code start log limit made old
+    → (first earlier later : O) → earlier ≡ observer_after seen (shown_in (world_with_keys code start log)) first made
+    → later ≡ observer_after seen (shown_at (code_of old.state) (world_of_state old.state)) earlier (new.state.steps - old.state.steps)
+    → later ≡ observer_after seen (shown_in (world_with_keys code start log)) first new.state.steps
+seen_on {O} seen code start log limit made until old new cause none run at first earlier later was is =
+    let worlds : ℕ → World = world_with_keys code start log in
+    let count : ℕ = new.state.steps - old.state.steps in
+    let sum : made + count ≡ new.state.steps = omega (arith, run.more, at.steps) in
+    let few : count ≤ until - made = omega (arith, run.end.within) in
+    is
+    ∙ ap₂ (λ (c : Code) (w : World). observer_after seen (shown_at c w) earlier count) at.code_is at.reached
+    ∙ ap (λ (o : O). observer_after seen (shown_at code (worlds made)) o count) was
+    ∙ following seen (shown_at code (worlds made)) (shown_in worlds) first made count
+    (λ j l. shown_from code start log made until j none (omega (arith, l, few)))
+    ∙ ap (λ (n : ℕ). observer_after seen (shown_in worlds) first n) sum
