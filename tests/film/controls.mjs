@@ -24,7 +24,7 @@ for (const [key, modifiers, wanted] of [['ArrowRight', 0, 402], ['ArrowLeft', 0,
 await page.key('End');
 await is('End', 'at==N', true);
 await page.key('ArrowRight');
-await is('no step behind the end', 'at==N', true);
+await is('no step after the end', 'at==N', true);
 await is('the cause in words', '$("say").textContent.includes(F.stop+": "+STOP[F.stop])', true);
 await page.value('go(200)');
 await page.key('b');

@@ -55,7 +55,7 @@ await page.key('c');
 await is('c goes to the next', 'at', 400);
 await is('two chapters at one step', '$("say").querySelector(".chap").innerText.includes("Later on.")&&$("say").querySelector(".chap").innerText.includes("And at once.")', true);
 await page.key('c');
-await is('c behind the last', 'at', 400);
+await is('c after the last', 'at', 400);
 await page.key('ArrowRight');
 await is('a step on is in the chapter', '$("say").querySelector(".chap").textContent.includes("Later on.")', true);
 await page.key('C');

@@ -8,7 +8,7 @@ use Rattle.std.proofs.lemmas.Bool.Decides.{nat_tests}
 use Rattle.a2_page.specs.declared.Switches.{Switches}
 use Rattle.a2_text.specs.Bytes.{is_among}
 use Rattle.a2_opcode.specs.Encoding.{Fetched, no_byte, undocumented, instruction, fetched}
-use Rattle.a2_bus.specs.Devices.{Devices}
+use Rattle.a2_bus.specs.Devices.{Devices, keys_typed}
 use Rattle.a2_bus.specs.Memory.{ram_byte, ram_end, peek, memory_access}
 use Rattle.a2_bus.proofs.Frame.{changed_by_writes}
 use Rattle.a2_cpu.specs.BusStep.{Refusal, refusal_of}
@@ -24,10 +24,24 @@ use Rattle.a2_machine.specs.declared.causes.Cause.{Cause}
 use Rattle.a2_machine.specs.declared.causes.Cause.TheVariants.{Returned, CodeWrite, OffStatement}
 use Rattle.a2_machine.specs.ByteRun.{Guard, bytes, decoded_or_cause}
 use Rattle.a2_machine.specs.Meaning.{Code, Decoded, cause_of_cpu_error, instruction_cause, service_cause, return_address, stuck_at}
-use Rattle.a2_machine.specs.Meaning.{next_at, found_at_pc, stuck, next, world_at}
-use Rattle.a2_film.specs.Changes.{Store, changed, switch_digit, switches_of, bytes_at, differing, stored, change_of, Frame}
-use Rattle.a2_film.specs.Changes.{keys_taken, with_stores, applied, frame_at}
-use Rattle.a2_film.specs.Laws.{Shows}
+use Rattle.a2_machine.specs.Meaning.{next_at, found_at_pc, stuck, next, statements}
+use Rattle.a2_machine.specs.Guarded.{HoldsCode, BytesMatchStatements}
+use Rattle.a2_machine.specs.ProgramGuard.{guard_of_program}
+use Rattle.a2_machine.proofs.GuardedRuns.{next-keeps_code}
+use Rattle.a2_machine.proofs.Runs.{stuck-alike, next-alike}
+use Rattle.a2_machine.proofs.Laid.{laid_by, start-holds, same-code}
+use Rattle.a2_opcode.specs.declared.Instr.{Instr}
+use Rattle.a2_asm.specs.Assembled.{Assembled}
+use Rattle.a2_asm.specs.Programs.{instr_at, IsSound}
+use Rattle.a2_run.specs.Meaning.{code_of_run, start_of_run}
+use Rattle.a2_run.specs.Started.{guard_of_run}
+use Rattle.a2_run.proofs.Runs.{sound-of}
+use Rattle.a2_timed_keys.specs.declared.strokes.Typed.{Typed}
+use Rattle.a2_timed_keys.specs.Typed.{typed, keys_at, world_before_keys, world_with_keys}
+use Rattle.a2_film.specs.Changes.{Course, Store, changed, switch_digit, switches_of, bytes_at, differing, stored, change_of, Frame}
+use Rattle.a2_film.specs.Changes.{keys_taken, with_stores, applied, frame_of, frame_at}
+use Rattle.a2_film.specs.Laws.{Shows, FramesShowTheRun}
+use Rattle.a2_film.proofs.Keys.{typed-byte}
 use Rattle.a2_film.proofs.Following.{Follows, performed-follows, served-follows}
 use Rattle.a2_film.proofs.Stepping.{stored-by_instruction, stored-by_service}
 
@@ -354,23 +368,48 @@ step-to guard before free = go (step-is (bytes guard) before free)
     go (inl h) = service-to (bytes guard) before h
     go (inr h) = instruction-to guard before h
 
+-- what a step stores is the same if keys are typed after it
+stored-typed : (before between after : World) (keys : List ℕ) → after ≡ typed keys between → stored before after ≡ stored before between
+unfolding stored
+stored-typed before between after keys is = go (service_at before.registers.pc)
+  where
+    same : ram_byte after.memory ≡ ram_byte between.memory
+    same = ap (λ (w : World). ram_byte w.memory) is ∙ (λ i a. typed-byte keys between a i)
+
+    go : (found : Option Service) → (elim found as (λ _. List Store) [
+      | Some service ↦ differing (ram_byte before.memory) (ram_byte after.memory) 0 ram_end
+      | None ↦ bytes_at (ram_byte after.memory)
+          (stores_at memory_access (fetched (peek before.memory) before.registers.pc) before)
+    ]) ≡ (elim found as (λ _. List Store) [
+      | Some service ↦ differing (ram_byte before.memory) (ram_byte between.memory) 0 ram_end
+      | None ↦ bytes_at (ram_byte between.memory)
+          (stores_at memory_access (fetched (peek before.memory) before.registers.pc) before)
+    ])
+    go (Some service) = ap (λ (f : ℕ → ℕ). differing (ram_byte before.memory) f 0 ram_end) same
+    go None = ap (λ (f : ℕ → ℕ). bytes_at f (stores_at memory_access (fetched (peek before.memory) before.registers.pc) before)) same
+
 -- A change applied to a frame
 
-devices-shown : (was frame is : Devices) → frame ≡ was → Follows was is
-    → (let d : Devices = record (keys_taken (length was.keys - length is.keys) frame) {
-      switches = switches_of (unwrap_or (changed (switch_digit was.switches) (switch_digit is.switches))
+-- the devices after a step, and after keys are typed there
+devices-shown : (was frame is after : Devices) (typed : List ℕ) → frame ≡ was → Follows was is → after ≡ keys_typed is typed
+    → keys_typed (let d : Devices = record (keys_taken (length was.keys - (length after.keys - length typed)) frame) {
+      switches = switches_of (unwrap_or (changed (switch_digit was.switches) (switch_digit after.switches))
           (switch_digit frame.switches));
-    } in d) ≡ is
-devices-shown was frame is e h =
-    let count : length was.keys - length is.keys ≡ length h.front =
-    omega (arith, ap (λ (l : List ℕ). length l) h.keys, length-append h.front is.keys) in
-    let switched : switches_of (unwrap_or (changed (switch_digit was.switches) (switch_digit is.switches))
+    } in d) typed ≡ after
+devices-shown was frame is after typed e h later =
+    let long : length after.keys ≡ length is.keys + length typed =
+    ap (λ (d : Devices). length d.keys) later ∙ length-append is.keys typed in
+    let count : length was.keys - (length after.keys - length typed) ≡ length h.front =
+    omega (arith, long, ap (λ (l : List ℕ). length l) h.keys, length-append h.front is.keys) in
+    let same : after.switches ≡ is.switches = ap (λ (d : Devices). d.switches) later in
+    let switched : switches_of (unwrap_or (changed (switch_digit was.switches) (switch_digit after.switches))
     (switch_digit frame.switches)) ≡ is.switches =
-    ap switches_of (unwrap-changed (switch_digit was.switches) (switch_digit is.switches) (switch_digit frame.switches)
-    (ap (λ (d : Devices). switch_digit d.switches) e))
+    ap switches_of (unwrap-changed (switch_digit was.switches) (switch_digit after.switches) (switch_digit frame.switches)
+    (ap (λ (d : Devices). switch_digit d.switches) e) ∙ ap switch_digit same)
     ∙ switches-round is.switches.text is.switches.mixed is.switches.page2 is.switches.hires in
-    (λ i. record (keys_taken (count i) (e i)) { switches = switched i })
-    ∙ h.taken
+    ap (λ (d : Devices). keys_typed d typed)
+    ((λ i. let d : Devices = record (keys_taken (count i) (e i)) { switches = switched i } in d) ∙ h.taken)
+    ∙ sym later
 
 registers-shown : (was frame is : Registers) → frame ≡ was
     → (let r : Registers = record {
@@ -391,23 +430,94 @@ registers-shown was frame is e =
     ∙ flags-round is.flags in
     λ i. record { a = a i; x = x i; y = y i; s = s i; pc = is.pc; flags = f i }
 
-applied-shows : (before after : World) (frame : Frame) → Shows frame before → IsStepTo before after
-    → Shows (applied (change_of before after) frame) after
-applied-shows before after frame shown step = record {
+-- the world with the keys that are typed after a step
+record IsTypedTo (before between after : World) (keys : List ℕ) : Type 0 where
+  step : IsStepTo before between
+  after_is : after ≡ typed keys between
+
+applied-shows : (before between after : World) (keys : List ℕ) (frame : Frame) → Shows frame before → IsTypedTo before between after keys
+    → Shows (applied (change_of before keys after) frame) after
+unfolding typed
+applied-shows before between after keys frame shown to = record {
   registers = registers-shown before.registers frame.registers after.registers shown.registers;
-  bytes = λ a low. step.settled frame.bytes a low (shown.bytes a low);
-  devices = devices-shown before.memory.devices frame.devices after.memory.devices shown.devices step.follows;
-  cycles = omega (arith, shown.cycles, step.cycles);
+  bytes = λ a low. ap (λ (l : List Store). with_stores l frame.bytes a) (stored-typed before between after keys to.after_is)
+      ∙ to.step.settled frame.bytes a low (shown.bytes a low)
+      ∙ sym (typed-byte keys between a) ∙ ap (λ (w : World). ram_byte w.memory a) (sym to.after_is);
+  devices = devices-shown before.memory.devices frame.devices between.memory.devices after.memory.devices keys shown.devices
+      to.step.follows (ap (λ (w : World). w.memory.devices) to.after_is);
+  cycles = omega (arith, shown.cycles, to.step.cycles, ap (λ (w : World). w.cycles) to.after_is);
 }
 
 -- The frames of a run
 
-pub frames-show : (guard : Option Guard) (start : World) (n : ℕ)
-    → ((k : ℕ) → k < n → stuck (bytes guard) (world_at (bytes guard) start k) ≡ None)
-    → Shows (frame_at (bytes guard) start n) (world_at (bytes guard) start n)
-unfolding world_at
-frames-show guard start zero going = record { registers = refl; bytes = λ a low. refl; devices = refl; cycles = refl }
-frames-show guard start (suc n) going =
-    let before = world_at (bytes guard) start n in
-    applied-shows before (next (bytes guard) before) (frame_at (bytes guard) start n)
-    (frames-show guard start n (λ k low. going k (omega (arith, low)))) (step-to guard before (going n (omega arith)))
+-- so many steps of a run after the first so many are steps of bytes, if none of its worlds is stuck
+abbrev pub AreSteps : Option Guard → Course → ℕ → Type 0
+AreSteps guard course n =
+    (k : ℕ) → k < n → (stuck (bytes guard) (course.world k) ≡ None)
+    × (course.world (suc k) ≡ typed (course.typed (suc k)) (next (bytes guard) (course.world k)))
+
+pub frames-show : (guard : Option Guard) (course : Course) (from n : ℕ) → AreSteps guard course (from + n)
+    → Shows (frame_at course from n) (course.world (from + n))
+frames-show guard course from zero are =
+    let all : from ≡ from + zero = omega arith in
+    subst (λ (k : ℕ). Shows (frame_of (course.world from)) (course.world k)) all
+    (record { registers = refl; bytes = λ a low. refl; devices = refl; cycles = refl })
+frames-show guard course from (suc n) are =
+    let k = from + n in
+    let more : suc k ≡ from + suc n = omega arith in
+    let step = are k (omega arith) in
+    subst (λ (m : ℕ). Shows (frame_at course from (suc n)) (course.world m)) more
+    (applied-shows (course.world k) (next (bytes guard) (course.world k)) (course.world (suc k)) (course.typed (suc k))
+    (frame_at course from n)
+    (frames-show guard course from n (λ m low. are m (omega (arith, low))))
+    (record { step = step-to guard (course.world k) step.0; after_is = step.1 }))
+
+-- A run of statements is one of bytes
+
+module _ (statement_at : ℕ → Option Instr) (guard : Guard) (laid : ℕ → ℕ) (start : World) (log : List Typed)
+    (says : BytesMatchStatements statement_at guard laid) (starts : HoldsCode guard.code laid start.memory) where
+  abbrev s : Code
+  s = statements statement_at guard.code
+
+  abbrev b : Code
+  b = bytes (Some guard)
+
+  abbrev world : ℕ → World
+  world n = world_with_keys s start log n
+
+  holds-typed : (keys : List ℕ) (w : World) → HoldsCode guard.code laid w.memory → HoldsCode guard.code laid (typed keys w).memory
+  holds-typed keys w h a among = typed-byte keys w a ∙ h a among
+
+  holds : (n : ℕ) → ((k : ℕ) → k < n → stuck s (world k) ≡ None) → HoldsCode guard.code laid (world n).memory
+  unfolding world_with_keys world_before_keys statements
+  holds zero free = holds-typed (keys_at log zero) start starts
+  holds (suc n) free =
+      holds-typed (keys_at log (suc n)) (next s (world n))
+      (next-keeps_code (statements statement_at guard.code) laid (world n) (holds n (λ k low. free k (omega (arith, low))))
+      (free n (omega arith)))
+
+  statement-steps : (n : ℕ) → ((k : ℕ) → k < n → stuck s (world k) ≡ None)
+      → AreSteps (Some guard) (record { world = world; typed = keys_at log }) n
+  unfolding world_with_keys world_before_keys statements bytes
+  statement-steps n free k low =
+      let here = holds k (λ m less. free m (omega (arith, less, low))) in
+      let same = says (world k).memory here (world k).registers.pc in (
+        sym (stuck-alike (statements statement_at guard.code) (bytes (Some guard)) (world k) refl same) ∙ free k low,
+        ap (typed (keys_at log (suc k))) (next-alike (statements statement_at guard.code) (bytes (Some guard)) (world k) same),
+      )
+
+run-steps : (free : Bool) (program : Assembled) (keys : List ℕ) (log : List Typed) (n : ℕ) → IsSound program
+    → ((k : ℕ) → k < n → stuck (code_of_run free program) (world_with_keys (code_of_run free program) (start_of_run program keys) log k) ≡ None)
+    → AreSteps (guard_of_run free program)
+    (record { world = world_with_keys (code_of_run free program) (start_of_run program keys) log; typed = keys_at log }) n
+unfolding world_with_keys world_before_keys
+run-steps true program keys log n sound free = λ k low. (free k low, refl)
+run-steps false program keys log n sound free =
+    statement-steps (instr_at program.statements) (guard_of_program program) (laid_by program) (start_of_run program keys) log
+    (same-code program sound) (start-holds program keys sound) n free
+
+pub frames_show_the_run : FramesShowTheRun
+frames_show_the_run text keys log limit free program end made is from n within =
+    frames-show (guard_of_run free program)
+    (record { world = world_with_keys (code_of_run free program) (start_of_run program keys) log; typed = keys_at log }) from n
+    (run-steps free program keys log (from + n) (sound-of text program made) (λ k low. is.first k (omega (arith, low, within))))

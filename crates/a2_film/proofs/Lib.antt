@@ -3,12 +3,14 @@ pub mod Reached
 pub mod Others
 pub mod Appending
 pub mod Storing
+pub mod Keys
 pub mod Stepping
 pub mod Filming
 pub mod Following
 pub mod FrameLaws
 pub mod ChapterLaws
 pub mod Windows
+pub mod Moves
 pub mod TextRuns
 pub mod Tagless
 pub mod ReadBack

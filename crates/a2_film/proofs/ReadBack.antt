@@ -14,10 +14,10 @@ use Rattle.std.specs.Char.{digit_value}
 use Rattle.std.specs.Str.Parse.{digits_value}
 use Rattle.a2_text.specs.Digits.{hex_digit, hex_pair, hex_word}
 use Rattle.a2_text.specs.Bytes.{is_among}
-use Rattle.a2_film.specs.Rows.{fields_of_parts, byte_text, switches_text, keys_text, store_text, stores_text, no_address}
+use Rattle.a2_film.specs.Rows.{fields_of_parts, byte_text, switches_text, keys_text, typed_text, store_text, stores_text, no_address}
 use Rattle.a2_film.specs.Rows.{row_text}
 use Rattle.a2_film.specs.Changes.{Store, Change}
-use Rattle.a2_film.specs.Reader.{first, hex_number, digit_count, decimal_number, field, keys_field, stores_field, read_row}
+use Rattle.a2_film.specs.Reader.{first, hex_number, digit_count, decimal_number, field, keys_field, typed_field, stores_field, read_row}
 use Rattle.a2_film.specs.Reader.{read_rows}
 use Rattle.a2_film.specs.Laws.{Fits, RowsReadBack}
 
@@ -133,6 +133,28 @@ keys-among n letters rest is = go (n == 0)
     go : (v : Bool) → Among (0x6B ∷ letters) ((if v then [] else 0x6B ∷ decimal n) ++ rest)
     go true = among-more 0x6B letters rest is
     go false = among-first 0x6B letters (decimal n ++ rest)
+
+-- Keys
+
+typed-back : (keys : List ℕ) (most : ℕ) (rest : List ℕ) → length keys < most → All (λ (key : ℕ). key < 0x100) keys
+    → (first rest == 0x74) ≡ false → typed_field most (typed_text keys ++ rest) ≡ (keys, rest)
+unfolding typed_field
+typed-back keys zero rest low fits different = absurd (omega (arith, low))
+typed-back [] (suc most) rest low fits different = rw different refl
+typed-back (key ∷ keys) (suc most) rest low fits different =
+    let tail = typed_text keys ++ rest in
+    let again = typed-back keys most rest (omega (arith, low)) (All-tail (λ (k : ℕ). k < 0x100) key keys fits) different in
+    ap (typed_field (suc most)) (append_assoc (0x74 ∷ hex_pair key) (typed_text keys) rest)
+    ∙ ap₂ (λ (k : ℕ) (found : List ℕ × List ℕ). (k ∷ found.0, found.1))
+    (pair-back key tail (All-head (λ (k : ℕ). k < 0x100) key keys fits)) again
+
+typed-among : (keys letters rest : List ℕ) → Among letters rest → Among (0x74 ∷ letters) (typed_text keys ++ rest)
+typed-among [] letters rest is = among-more 0x74 letters rest is
+typed-among (key ∷ keys) letters rest is = among-first 0x74 letters ((hex_pair key ++ typed_text keys) ++ rest)
+
+typed-long : (keys : List ℕ) → length keys ≤ length (typed_text keys)
+typed-long [] = omega arith
+typed-long (key ∷ keys) = omega (arith, typed-long keys)
 
 -- Stores
 
@@ -250,19 +272,26 @@ parts_of change =
 abbrev stores_on : Change → List ℕ → List ℕ
 stores_on change rest = stores_text no_address change.stores ++ (0x0A ∷ rest)
 
-row-form : (change : Change) (rest : List ℕ) → row_text change ++ rest ≡ onto (parts_of change) (stores_on change rest)
+-- the keys and the stores
+abbrev typed_on : Change → List ℕ → List ℕ
+typed_on change rest = typed_text change.typed ++ stores_on change rest
+
+row-form : (change : Change) (rest : List ℕ) → row_text change ++ rest ≡ onto (parts_of change) (typed_on change rest)
 unfolding fields_of_parts
 row-form change rest =
     let stored = stores_text no_address change.stores in
-    append_assoc (concat (parts_of change)) (stored ++ codes "\n") rest
-    ∙ ap (λ (l : List ℕ). concat (parts_of change) ++ l) (append_assoc stored (codes "\n") rest)
-    ∙ concat-onto (parts_of change) (stores_on change rest)
+    append_assoc (concat (parts_of change)) (typed_text change.typed ++ (stored ++ codes "\n")) rest
+    ∙ ap (λ (l : List ℕ). concat (parts_of change) ++ l)
+    (append_assoc (typed_text change.typed) (stored ++ codes "\n") rest
+    ∙ ap (λ (l : List ℕ). typed_text change.typed ++ l) (append_assoc stored (codes "\n") rest))
+    ∙ concat-onto (parts_of change) (typed_on change rest)
 
 row-back : (change : Change) (rest : List ℕ) → Fits change
-    → read_row (onto (parts_of change) (stores_on change rest)) ≡ (change, rest)
+    → read_row (onto (parts_of change) (typed_on change rest)) ≡ (change, rest)
 unfolding read_row
 row-back change rest fits =
-    let t8 = stores_on change rest in
+    let t9 = stores_on change rest in
+    let t8 = typed_text change.typed ++ t9 in
     let t7 = keys_text change.keys ++ t8 in
     let t6 = switches_text change.switches ++ t7 in
     let t5 = byte_text 0x70 change.p ++ t6 in
@@ -270,36 +299,42 @@ row-back change rest fits =
     let t3 = byte_text 0x79 change.y ++ t4 in
     let t2 = byte_text 0x78 change.x ++ t3 in
     let t1 = byte_text 0x61 change.a ++ t2 in
-    let m8 = stores-among change.stores rest fits.stores in
-    let m7 = keys-among change.keys (0x6D ∷ 0x0A ∷ []) t8 m8 in
-    let m6 = switches-among change.switches (0x6B ∷ 0x6D ∷ 0x0A ∷ []) t7 m7 in
-    let m5 = byte-among 0x70 change.p (0x77 ∷ 0x6B ∷ 0x6D ∷ 0x0A ∷ []) t6 m6 in
-    let m4 = byte-among 0x73 change.s (0x70 ∷ 0x77 ∷ 0x6B ∷ 0x6D ∷ 0x0A ∷ []) t5 m5 in
-    let m3 = byte-among 0x79 change.y (0x73 ∷ 0x70 ∷ 0x77 ∷ 0x6B ∷ 0x6D ∷ 0x0A ∷ []) t4 m4 in
-    let m2 = byte-among 0x78 change.x (0x79 ∷ 0x73 ∷ 0x70 ∷ 0x77 ∷ 0x6B ∷ 0x6D ∷ 0x0A ∷ []) t3 m3 in
-    let m1 = byte-among 0x61 change.a (0x78 ∷ 0x79 ∷ 0x73 ∷ 0x70 ∷ 0x77 ∷ 0x6B ∷ 0x6D ∷ 0x0A ∷ []) t2 m2 in
+    let m9 = stores-among change.stores rest fits.stores in
+    let m8 = typed-among change.typed (0x6D ∷ 0x0A ∷ []) t9 m9 in
+    let m7 = keys-among change.keys (0x74 ∷ 0x6D ∷ 0x0A ∷ []) t8 m8 in
+    let m6 = switches-among change.switches (0x6B ∷ 0x74 ∷ 0x6D ∷ 0x0A ∷ []) t7 m7 in
+    let m5 = byte-among 0x70 change.p (0x77 ∷ 0x6B ∷ 0x74 ∷ 0x6D ∷ 0x0A ∷ []) t6 m6 in
+    let m4 = byte-among 0x73 change.s (0x70 ∷ 0x77 ∷ 0x6B ∷ 0x74 ∷ 0x6D ∷ 0x0A ∷ []) t5 m5 in
+    let m3 = byte-among 0x79 change.y (0x73 ∷ 0x70 ∷ 0x77 ∷ 0x6B ∷ 0x74 ∷ 0x6D ∷ 0x0A ∷ []) t4 m4 in
+    let m2 = byte-among 0x78 change.x (0x79 ∷ 0x73 ∷ 0x70 ∷ 0x77 ∷ 0x6B ∷ 0x74 ∷ 0x6D ∷ 0x0A ∷ []) t3 m3 in
+    let m1 = byte-among 0x61 change.a (0x78 ∷ 0x79 ∷ 0x73 ∷ 0x70 ∷ 0x77 ∷ 0x6B ∷ 0x74 ∷ 0x6D ∷ 0x0A ∷ []) t2 m2 in
     let cycles = decimal-back change.cycles t1 fits.cycles
-    (nodigit (0x61 ∷ 0x78 ∷ 0x79 ∷ 0x73 ∷ 0x70 ∷ 0x77 ∷ 0x6B ∷ 0x6D ∷ 0x0A ∷ []) t1 m1 refl) in
-    let long : length change.stores < length (onto (parts_of change) t8) =
+    (nodigit (0x61 ∷ 0x78 ∷ 0x79 ∷ 0x73 ∷ 0x70 ∷ 0x77 ∷ 0x6B ∷ 0x74 ∷ 0x6D ∷ 0x0A ∷ []) t1 m1 refl) in
+    let long : length change.typed + length change.stores < length (onto (parts_of change) t8) =
     omega (
       arith,
       stores-long change.stores no_address,
       length-append (stores_text no_address change.stores) (0x0A ∷ rest),
+      typed-long change.typed,
+      length-append (typed_text change.typed) t9,
       onto-long (parts_of change) t8,
     ) in
     rw (
       word-back change.pc (decimal change.cycles ++ t1) fits.pc,
       cycles.number,
       cycles.following,
-      byte-field 0x61 change.a t2 refl (other 0x61 (0x78 ∷ 0x79 ∷ 0x73 ∷ 0x70 ∷ 0x77 ∷ 0x6B ∷ 0x6D ∷ 0x0A ∷ []) t2 m2 refl)
+      byte-field 0x61 change.a t2 refl (other 0x61 (0x78 ∷ 0x79 ∷ 0x73 ∷ 0x70 ∷ 0x77 ∷ 0x6B ∷ 0x74 ∷ 0x6D ∷ 0x0A ∷ []) t2 m2 refl)
           fits.a,
-      byte-field 0x78 change.x t3 refl (other 0x78 (0x79 ∷ 0x73 ∷ 0x70 ∷ 0x77 ∷ 0x6B ∷ 0x6D ∷ 0x0A ∷ []) t3 m3 refl) fits.x,
-      byte-field 0x79 change.y t4 refl (other 0x79 (0x73 ∷ 0x70 ∷ 0x77 ∷ 0x6B ∷ 0x6D ∷ 0x0A ∷ []) t4 m4 refl) fits.y,
-      byte-field 0x73 change.s t5 refl (other 0x73 (0x70 ∷ 0x77 ∷ 0x6B ∷ 0x6D ∷ 0x0A ∷ []) t5 m5 refl) fits.s,
-      byte-field 0x70 change.p t6 refl (other 0x70 (0x77 ∷ 0x6B ∷ 0x6D ∷ 0x0A ∷ []) t6 m6 refl) fits.p,
-      switches-field change.switches t7 (other 0x77 (0x6B ∷ 0x6D ∷ 0x0A ∷ []) t7 m7 refl) fits.switches,
-      keys-back change.keys t8 fits.keys (other 0x6B (0x6D ∷ 0x0A ∷ []) t8 m8 refl) (nodigit (0x6D ∷ 0x0A ∷ []) t8 m8 refl),
-      stores-back change.stores (length (onto (parts_of change) t8)) no_address rest long fits.stores,
+      byte-field 0x78 change.x t3 refl (other 0x78 (0x79 ∷ 0x73 ∷ 0x70 ∷ 0x77 ∷ 0x6B ∷ 0x74 ∷ 0x6D ∷ 0x0A ∷ []) t3 m3 refl) fits.x,
+      byte-field 0x79 change.y t4 refl (other 0x79 (0x73 ∷ 0x70 ∷ 0x77 ∷ 0x6B ∷ 0x74 ∷ 0x6D ∷ 0x0A ∷ []) t4 m4 refl) fits.y,
+      byte-field 0x73 change.s t5 refl (other 0x73 (0x70 ∷ 0x77 ∷ 0x6B ∷ 0x74 ∷ 0x6D ∷ 0x0A ∷ []) t5 m5 refl) fits.s,
+      byte-field 0x70 change.p t6 refl (other 0x70 (0x77 ∷ 0x6B ∷ 0x74 ∷ 0x6D ∷ 0x0A ∷ []) t6 m6 refl) fits.p,
+      switches-field change.switches t7 (other 0x77 (0x6B ∷ 0x74 ∷ 0x6D ∷ 0x0A ∷ []) t7 m7 refl) fits.switches,
+      keys-back change.keys t8 fits.keys (other 0x6B (0x74 ∷ 0x6D ∷ 0x0A ∷ []) t8 m8 refl)
+          (nodigit (0x74 ∷ 0x6D ∷ 0x0A ∷ []) t8 m8 refl),
+      typed-back change.typed (length (onto (parts_of change) t8)) t9 (omega (arith, long)) fits.typed
+          (other 0x74 (0x6D ∷ 0x0A ∷ []) t9 m9 refl),
+      stores-back change.stores (length (onto (parts_of change) t8)) no_address rest (omega (arith, long)) fits.stores,
     )
 
 -- All rows

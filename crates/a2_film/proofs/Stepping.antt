@@ -18,11 +18,13 @@ use Rattle.a2_services.specs.Services.{service_at, reach, served}
 use Rattle.a2_services.proofs.Effects.{served-kept}
 use Rattle.a2_services.specs.World.{World, world_of}
 use Rattle.a2_machine.specs.Meaning.{Code, found_at_pc, next, next_at}
-use Rattle.a2_machine.specs.State.{Device, world_of_state, code_of, IsStep}
+use Rattle.a2_machine.specs.State.{Device, world_of_state}
 use Rattle.a2_machine.proofs.Outcomes.{stores-world, fetched-world}
-use Rattle.a2_film.specs.Changes.{Store, stored, bytes_at, differing}
-use Rattle.a2_film.specs.Filmed.{Seen, seen_of, fields_between, row_between, low_end, from_address}
-use Rattle.a2_film.specs.Rows.{stores_text, no_address}
+use Rattle.a2_timed_keys.specs.Typed.{typed}
+use Rattle.a2_film.specs.Changes.{Store, stored, bytes_at, differing, change_of}
+use Rattle.a2_film.specs.Filmed.{Seen, seen_of, fields_between, low_end, from_address}
+use Rattle.a2_film.specs.Rows.{typed_text, stores_text, no_address, row_text}
+use Rattle.a2_film.proofs.Keys.{typed-byte}
 use Rattle.a2_film.proofs.Parts.{differing-alike}
 use Rattle.a2_film.proofs.Reached.{reach-below, reach-above, reach-between, low_end-least, low_end-most}
 use Rattle.a2_film.proofs.Others.{differing-reached, page-seen}
@@ -78,24 +80,33 @@ stored-by_service before after some = go (service_at before.registers.pc) some
     go (Some service) is = refl
 
 -- what is built for a step is its row, after the other rows
-pub row_of : (rows start row all fields stores whole : List ℕ) → all ≡ row ++ codes "\n" → row ≡ start ++ stores
-    → start ≡ rows ++ fields → fields ++ (stores ++ codes "\n") ≡ whole → all ≡ rows ++ whole
-row_of rows start row all fields stores whole ended stored begun is =
+pub row_of : (rows start row all fields keys stores : List ℕ) → all ≡ row ++ codes "\n" → row ≡ start ++ stores
+    → start ≡ (rows ++ fields) ++ keys → all ≡ rows ++ (fields ++ (keys ++ (stores ++ codes "\n")))
+row_of rows start row all fields keys stores ended stored begun =
     ended ∙ ap (λ (l : List ℕ). l ++ codes "\n") (stored ∙ ap (λ (l : List ℕ). l ++ stores) begun)
-    ∙ append_assoc (rows ++ fields) stores (codes "\n") ∙ append_assoc rows fields (stores ++ codes "\n")
-    ∙ ap (λ (l : List ℕ). rows ++ l) is
+    ∙ append_assoc ((rows ++ fields) ++ keys) stores (codes "\n") ∙ append_assoc (rows ++ fields) keys (stores ++ codes "\n")
+    ∙ append_assoc rows fields (keys ++ (stores ++ codes "\n"))
+
+-- the row of a step, of these parts
+row_in : (before after : World) (keys : List ℕ) (seen : Seen) (count : ℕ) (stores : List Store) → seen ≡ seen_of before
+    → count ≡ length keys → stores ≡ stored before after
+    → fields_between seen count (seen_of after) ++ (typed_text keys ++ (stores_text no_address stores ++ codes "\n"))
+    ≡ row_text (change_of before keys after)
+row_in before after keys seen count stores is counted stored_is = λ i.
+    fields_between (is i) (counted i) (seen_of after) ++ (typed_text keys ++ (stores_text no_address (stored_is i) ++ codes "\n"))
 
 -- the row of an instruction's step, from the addresses that the processor gives before it
-pub instruction_row : (old new : Device) (seen : Seen) (addresses : List ℕ) → is_some (service_at old.state.regs.pc) ≡ false
-    → length old.state.bus.bytes ≡ ram_end → seen ≡ seen_of (world_of_state old.state)
+pub instruction_row : (old new : Device) (keys : List ℕ) (seen : Seen) (count : ℕ) (addresses : List ℕ)
+    → is_some (service_at old.state.regs.pc) ≡ false
+    → length old.state.bus.bytes ≡ ram_end → seen ≡ seen_of (world_of_state old.state) → count ≡ length keys
     → addresses ≡ step_stores board_access (before_step old.state.regs old.state.bus)
-    → fields_between seen (seen_of (world_of_state new.state))
-    ++ (stores_text no_address (bytes_at (ram_byte (world_of_state new.state).memory) addresses) ++ codes "\n")
-    ≡ row_between old new
-instruction_row old new seen addresses none size is told =
+    → fields_between seen count (seen_of (world_of_state new.state))
+    ++ (typed_text keys ++ (stores_text no_address (bytes_at (ram_byte (world_of_state new.state).memory) addresses) ++ codes "\n"))
+    ≡ row_text (change_of (world_of_state old.state) keys (world_of_state new.state))
+instruction_row old new keys seen count addresses none size is counted told =
     let before = world_of_state old.state in
     let after = world_of_state new.state in
-    ap₂ (λ (s : Seen) (l : List Store). fields_between s (seen_of after) ++ (stores_text no_address l ++ codes "\n")) is
+    row_in before after keys seen count (bytes_at (ram_byte after.memory) addresses) is counted
     (ap (bytes_at (ram_byte after.memory)) (told ∙ stores-there (registers_of old.state.regs) old.state.bus old.state.cycles size)
     ∙ sym (stored-by_instruction before after none))
 
@@ -113,18 +124,19 @@ called code world service there =
     ]) (sym there)
 
 -- the row of a service's step, from the earlier bytes of RAM that it may change
-pub service_row : (old new : Device) (seen : Seen) (service : Service) (ram page : List ℕ) (end : ℕ)
-    → Some service ≡ service_at old.state.regs.pc
-    → IsStep old new → length old.state.bus.bytes ≡ ram_end → seen ≡ seen_of (world_of_state old.state) → end ≡ low_end service
+pub service_row : (old new : Device) (code : Code) (keys : List ℕ) (seen : Seen) (count : ℕ) (service : Service) (ram page : List ℕ)
+    (end : ℕ) → Some service ≡ service_at old.state.regs.pc
+    → world_of_state new.state ≡ typed keys (next code (world_of_state old.state)) → length old.state.bus.bytes ≡ ram_end
+    → seen ≡ seen_of (world_of_state old.state) → count ≡ length keys → end ≡ low_end service
     → length ram ≡ ram_end
     → ((a : ℕ) → 0x24 ≤ a → a < end → slice_index ram a ≡ ram_byte (memory_of old.state.bus) a)
     → page ≡ slice_range old.state.bus.bytes 0x400 0x800
-    → fields_between seen (seen_of (world_of_state new.state)) ++ (stores_text no_address
+    → fields_between seen count (seen_of (world_of_state new.state)) ++ (typed_text keys ++ (stores_text no_address
     (differing (from_address 0x24 (slice_range ram 0x24 end)) (ram_byte (world_of_state new.state).memory) 0x24 (end - 0x24)
-    ++ differing (from_address 0x400 page) (ram_byte (world_of_state new.state).memory) 0x400 0x400) ++ codes "\n")
-    ≡ row_between old new
-service_row old new seen service ram page end there step size is end_is long held paged =
-    ap₂ (λ (s : Seen) (l : List Store). fields_between s (seen_of after) ++ (stores_text no_address l ++ codes "\n")) is
+    ++ differing (from_address 0x400 page) (ram_byte (world_of_state new.state).memory) 0x400 0x400) ++ codes "\n"))
+    ≡ row_text (change_of (world_of_state old.state) keys (world_of_state new.state))
+service_row old new code keys seen count service ram page end there step size is counted end_is long held paged =
+    row_in before after keys seen count _ is counted
     (ap₂ (λ (l r : List Store). l ++ r) low_part page_part
     ∙ sym (differing-reached was now end least (omega (arith, most))
     (λ a low. kept a (reach-below service a low))
@@ -151,8 +163,9 @@ service_row old new seen service ram page end there step size is end_is long hel
     most = omega (arith, end_is, low_end-most service)
 
     kept : (a : ℕ) → reach service a ≡ false → was a ≡ now a
-    kept a out = sym (served-kept service before a out) ∙ ap (λ (w : World). ram_byte w.memory a)
-        (sym (called (code_of old.state) before service there) ∙ sym step.world)
+    kept a out = sym (served-kept service before a out)
+        ∙ ap (λ (w : World). ram_byte w.memory a) (sym (called code before service there))
+        ∙ sym (typed-byte keys (next code before) a) ∙ ap (λ (w : World). ram_byte w.memory a) (sym step)
 
     low_part : differing (from_address 0x24 (slice_range ram 0x24 end)) now 0x24 (end - 0x24) ≡ differing was now 0x24
         (end - 0x24)

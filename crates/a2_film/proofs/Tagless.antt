@@ -17,18 +17,17 @@ use Rattle.a2_effect.specs.Registers.{byte_of_flags}
 use Rattle.a2_services.specs.World.{World}
 use Rattle.a2_machine.specs.declared.causes.Cause.{Cause}
 use Rattle.a2_machine.specs.declared.causes.Cause.TheVariants.{Returned}
-use Rattle.a2_machine.specs.Meaning.{Code, world_at}
 use Rattle.a2_machine.specs.Output.{cause_line}
-use Rattle.a2_film.specs.Changes.{Store, Change, switch_digit, differing, change_of}
+use Rattle.a2_film.specs.Changes.{Course, Store, Change, switch_digit, differing, change_at}
 use Rattle.a2_film.specs.declared.chapters.Place.{Place}
 use Rattle.a2_film.specs.declared.chapters.Place.TheVariants.{Step, Line}
 use Rattle.a2_film.specs.declared.chapters.Chapter.{Chapter}
 use Rattle.a2_film.specs.Rows.{place_text, chapter_line, line_of_counts, byte_text, switches_text, keys_text, store_text}
-use Rattle.a2_film.specs.Rows.{stores_text, no_address, fields_of_parts, fields_text, row_text, plain_byte, plain_text}
+use Rattle.a2_film.specs.Rows.{typed_text, stores_text, no_address, fields_of_parts, fields_text, row_text, plain_byte, plain_text}
 use Rattle.a2_film.specs.Rows.{digits_of_bytes, title_lines, guard_text, opening, source_line, laid, line_of_statement}
 use Rattle.a2_film.specs.Rows.{statement_line, name_line, program_lines, memory_line, line_of_registers, registers_line}
 use Rattle.a2_film.specs.Rows.{start_lines}
-use Rattle.a2_film.specs.Runs.{rows, run_lines}
+use Rattle.a2_film.specs.Runs.{rows}
 use Rattle.a2_film.specs.Film.{film_head}
 use Rattle.a2_film.specs.Laws.{HasNoTag, DataHaveNoTag}
 
@@ -169,18 +168,23 @@ fields-tagless change =
       ),
     )
 
+typed-tagless : (keys : List ℕ) → HasNoTag (typed_text keys)
+typed-tagless keys =
+    flat_map-tagless (λ key. 0x74 ∷ hex_pair key) (λ key. cons-tagless 0x74 (hex_pair key) (other_test 0x74 refl) (hex_pair-tagless key)) keys
+
 row-tagless : (change : Change) → HasNoTag (row_text change)
 row-tagless change =
-    append-tagless (fields_text change) (stores_text no_address change.stores ++ codes "\n") (fields-tagless change)
+    let stores = stores_text no_address change.stores ++ codes "\n" in
+    append-tagless (fields_text change) (typed_text change.typed ++ stores) (fields-tagless change)
+    (append-tagless (typed_text change.typed) stores (typed-tagless change.typed)
     (append-tagless (stores_text no_address change.stores) (codes "\n") (stores-tagless no_address change.stores)
-    (by_test (codes "\n") refl))
+    (by_test (codes "\n") refl)))
 
-rows-tagless : (code : Code) (start : World) (n : ℕ) → HasNoTag (rows code start n)
-rows-tagless code start zero = nil-tagless
-rows-tagless code start (suc n) =
-    append-tagless (rows code start n) (row_text (change_of (world_at code start n) (world_at code start (suc n))))
-    (rows-tagless code start n)
-    (row-tagless (change_of (world_at code start n) (world_at code start (suc n))))
+rows-tagless : (course : Course) (from n : ℕ) → HasNoTag (rows course from n)
+rows-tagless course from zero = nil-tagless
+rows-tagless course from (suc n) =
+    append-tagless (row_text (change_at course from)) (rows course (suc from) n) (row-tagless (change_at course from))
+    (rows-tagless course (suc from) n)
 
 cause-tagless : (cause : Cause) → HasNoTag (cause_line cause)
 cause-tagless Returned = by_test (cause_line Returned) refl
@@ -342,16 +346,15 @@ registers-tagless start =
     )
 
 pub data-tagless : DataHaveNoTag
-data-tagless text title chapters free program code steps start end =
+data-tagless text title chapters free program steps start course from n cause =
     let keys = start.memory.devices.keys in
     let listed = program_lines program (lines text) in
     let first = flat_map chapter_line chapters in
-    append-tagless (film_head title chapters text free program steps start) (run_lines code start end)
+    append-tagless (film_head title chapters text free program steps start) (rows course from n ++ cause_line cause)
     (append-tagless (opening title free keys) (first ++ (listed ++ start_lines steps start)) (opening-tagless title free keys)
     (append-tagless first (listed ++ start_lines steps start) (flat_map-tagless (λ c. chapter_line c) chapter-tagless chapters)
     (append-tagless listed (start_lines steps start) (program-tagless program (lines text))
     (append-tagless (line_of_counts (decimal steps) (decimal start.cycles)) (memory_line start ++ registers_line start)
     (counts-tagless steps start.cycles)
     (append-tagless (memory_line start) (registers_line start) (memory-tagless start) (registers-tagless start))))))
-    (append-tagless (rows code start end.steps) (cause_line end.cause) (rows-tagless code start end.steps)
-    (cause-tagless end.cause))
+    (append-tagless (rows course from n) (cause_line cause) (rows-tagless course from n) (cause-tagless cause))

@@ -2,7 +2,7 @@
 use Rattle.std.specs.Prelude.{ℕ, zero, suc, ◌+◌, ◌-◌, ◌*◌, nat_lt, ◌==◌, List, [], ◌∷◌, length, if◌then◌else◌, Option, Some, None}
 use Rattle.std.specs.Prelude.{unwrap_or}
 use Rattle.a2_page.specs.declared.Switches.{Switches}
-use Rattle.a2_bus.specs.Devices.{Devices, key_taken}
+use Rattle.a2_bus.specs.Devices.{Devices, key_taken, keys_typed}
 use Rattle.a2_opcode.specs.Encoding.{fetched}
 use Rattle.a2_bus.specs.Memory.{ram_byte, ram_end, peek, memory_access}
 use Rattle.a2_effect.specs.Registers.{Registers, byte_of_flags, flags_of_byte, is_one_at, one_if}
@@ -10,6 +10,26 @@ use Rattle.a2_cpu.specs.StepStores.{stores_at}
 use Rattle.a2_services.specs.Services.{service_at}
 use Rattle.a2_services.specs.World.{World}
 use Rattle.a2_machine.specs.Meaning.{Code, world_at}
+use Rattle.a2_timed_keys.specs.Finished.{Finished}
+use Rattle.a2_timed_keys.specs.Rerun.{worlds_of}
+use Rattle.a2_timed_keys.specs.Typed.{keys_at}
+
+-- Runs
+
+-- a run: the world after so many steps, with the keys that are typed there, and these keys
+pub record Course : Type 0 where
+  pub world : ℕ → World
+  pub typed : ℕ → List ℕ
+
+-- a run in which no key is typed
+abbrev pub course_of : Code → World → Course
+course_of code start = record { world = world_at code start; typed = λ _. [] }
+
+-- a finished run
+abbrev pub course_in : Finished → Course
+course_in f = record { world = worlds_of f; typed = keys_at f.log }
+
+-- Changes
 
 -- an address of RAM, and the byte there
 abbrev pub Store : Type 0
@@ -27,8 +47,9 @@ pub record Change : Type 0 where
   pub s : Option ℕ
   pub p : Option ℕ
   pub switches : Option ℕ
-  -- how many keys the step took
+  -- how many keys the step took, and the keys that were typed after it
   pub keys : ℕ
+  pub typed : List ℕ
   pub stores : List Store
 
 -- the new number, if it differs from the old
@@ -67,9 +88,9 @@ stored before after =
           (stores_at memory_access (fetched (peek before.memory) before.registers.pc) before)
     ]
 
--- the change between two worlds, if these bytes are stored
-abbrev pub change_between : World → World → List Store → Change
-change_between before after stores =
+-- the change between two worlds, the second one with keys that were typed there, if these bytes are stored
+abbrev pub change_between : World → List ℕ → World → List Store → Change
+change_between before typed after stores =
     let old = before.registers in
     let new = after.registers in
     let was = before.memory.devices in
@@ -83,13 +104,18 @@ change_between before after stores =
       s = changed old.s new.s;
       p = changed (byte_of_flags old.flags) (byte_of_flags new.flags);
       switches = changed (switch_digit was.switches) (switch_digit is.switches);
-      keys = length was.keys - length is.keys;
+      keys = length was.keys - (length is.keys - length typed);
+      typed = typed;
       stores = stores;
     }
 
--- the change that the step between two worlds makes
-abbrev pub change_of : World → World → Change
-change_of before after = change_between before after (stored before after)
+-- the change that the step between two worlds makes, with the keys that are typed after it
+abbrev pub change_of : World → List ℕ → World → Change
+change_of before typed after = change_between before typed after (stored before after)
+
+-- the change that a step of a run makes, counted from 0
+abbrev pub change_at : Course → ℕ → Change
+change_at course n = change_of (course.world n) (course.typed (suc n)) (course.world (suc n))
 
 -- Frames
 
@@ -132,13 +158,13 @@ applied change frame =
         flags = flags_of_byte (unwrap_or change.p (byte_of_flags old.flags));
       };
       bytes = with_stores change.stores frame.bytes;
-      devices = record (keys_taken change.keys frame.devices) {
+      devices = keys_typed (record (keys_taken change.keys frame.devices) {
         switches = switches_of (unwrap_or change.switches (switch_digit frame.devices.switches));
-      };
+      }) change.typed;
       cycles = frame.cycles + change.cycles;
     }
 
--- the first so many changes of a run, applied to its start
-abbrev pub frame_at : Code → World → ℕ → Frame
-frame_at code start zero = frame_of start
-frame_at code start (suc n) = applied (change_of (world_at code start n) (world_at code start (suc n))) (frame_at code start n)
+-- so many changes of a run, after the first so many steps, applied to the world there
+abbrev pub frame_at : Course → ℕ → ℕ → Frame
+frame_at course from zero = frame_of (course.world from)
+frame_at course from (suc n) = applied (change_at course (from + n)) (frame_at course from n)

@@ -4,14 +4,17 @@ use Rattle.std.specs.List.{flat_map}
 use Rattle.a2_bus.specs.Memory.{ram_byte, ram_end}
 use Rattle.a2_asm.specs.Assembled.{Assembled}
 use Rattle.a2_services.specs.World.{World}
-use Rattle.a2_machine.specs.Meaning.{Code, End, IsEnd, world_at}
+use Rattle.a2_machine.specs.declared.causes.Cause.{Cause}
+use Rattle.a2_machine.specs.Meaning.{End}
 use Rattle.a2_run.specs.Meaning.{IsProgramOf, code_of_run, start_of_run}
+use Rattle.a2_timed_keys.specs.declared.strokes.Typed.{Typed}
+use Rattle.a2_timed_keys.specs.Typed.{keys_at, world_with_keys, IsTypedEnd}
 use Rattle.a2_film.specs.declared.chapters.Chapter.{Chapter}
-use Rattle.a2_film.specs.Changes.{Store, Change, Frame, frame_at}
+use Rattle.a2_film.specs.Changes.{Course, Store, Change, Frame, frame_at}
 use Rattle.a2_film.specs.Film.{film_head}
 use Rattle.a2_film.specs.Rows.{row_text}
 use Rattle.a2_film.specs.Reader.{rows_of}
-use Rattle.a2_film.specs.Runs.{run_lines}
+use Rattle.a2_film.specs.Runs.{rows, lines_of}
 
 -- a frame shows a world: the same registers, cycles and devices, and the same byte at each address of RAM
 pub record Shows (frame : Frame) (world : World) : Type 0 where
@@ -25,11 +28,10 @@ pub record Shows (frame : Frame) (world : World) : Type 0 where
 -- sum
 abbrev pub FramesShowTheRun : Type 0
 FramesShowTheRun =
-    (text keys : List ℕ) (limit : ℕ) (free : Bool) (program : Assembled) (end : End) → IsProgramOf text program
-    → IsEnd (code_of_run free program) (start_of_run program keys) limit end → (from n : ℕ) → from + n ≤ end.steps
-    → let code = code_of_run free program in
-    let start = start_of_run program keys in
-    Shows (frame_at code (world_at code start from) n) (world_at code start (from + n))
+    (text keys : List ℕ) (log : List Typed) (limit : ℕ) (free : Bool) (program : Assembled) (end : End) → IsProgramOf text program
+    → IsTypedEnd (code_of_run free program) (start_of_run program keys) log limit end → (from n : ℕ) → from + n ≤ end.steps
+    → let course : Course = record { world = world_with_keys (code_of_run free program) (start_of_run program keys) log; typed = keys_at log } in
+    Shows (frame_at course from n) (course.world (from + n))
 
 -- no byte is <, the only one that could end a script or begin a tag
 abbrev pub HasNoTag : List ℕ → Type 0
@@ -38,9 +40,9 @@ HasNoTag text = All (λ c. c ≢ 0x3C) text
 -- whatever a text, its title, its chapters and its keys are, the data of its film have none
 abbrev pub DataHaveNoTag : Type 0
 DataHaveNoTag =
-    (text title : List ℕ) (chapters : List Chapter) (free : Bool) (program : Assembled) (code : Code) (steps : ℕ) (start : World)
-    (end : End)
-    → HasNoTag (film_head title chapters text free program steps start ++ run_lines code start end)
+    (text title : List ℕ) (chapters : List Chapter) (free : Bool) (program : Assembled) (steps : ℕ) (start : World) (course : Course)
+    (from n : ℕ) (cause : Cause)
+    → HasNoTag (film_head title chapters text free program steps start ++ lines_of (record { rows = rows course from n; cause = cause }))
 
 -- the numbers of a change fit their fields
 pub record Fits (change : Change) : Type 0 where
@@ -53,6 +55,7 @@ pub record Fits (change : Change) : Type 0 where
   pub p : IfSome change.p (λ n. n < 0x100)
   pub switches : IfSome change.switches (λ n. n < 16)
   pub keys : change.keys < 10 ^ 64
+  pub typed : All (λ (key : ℕ). key < 0x100) change.typed
   pub stores : All (λ (store : Store). (store.0 < 0x10000) × (store.1 < 0x100)) change.stores
 
 -- the rows of changes that fit are read back as these changes

@@ -31,6 +31,14 @@ abbrev pub keys_field : List ℕ → ℕ × List ℕ
 keys_field text =
     if first text == 0x6B then (decimal_number (drop 1 text), drop (digit_count (drop 1 text)) (drop 1 text)) else (0, text)
 
+-- at most so many keys, each with t before it, and what follows
+unfoldable pub typed_field : ℕ → List ℕ → List ℕ × List ℕ
+typed_field zero text = ([], text)
+typed_field (suc most) text =
+    if first text == 0x74 then
+    (let rest = typed_field most (drop 3 text) in (hex_number 2 (drop 1 text) ∷ rest.0, rest.1))
+    else ([], text)
+
 -- at most so many stores, up to the line's end, if the next address is known; and what follows the line
 unfoldable pub stores_field : ℕ → ℕ → List ℕ → List Store × List ℕ
 stores_field zero next text = ([], text)
@@ -52,7 +60,8 @@ read_row text =
     let p = field 0x70 2 s.1 in
     let switches = field 0x77 1 p.1 in
     let keys = keys_field switches.1 in
-    let stores = stores_field (length text) 0x10000 keys.1 in (
+    let typed = typed_field (length text) keys.1 in
+    let stores = stores_field (length text) 0x10000 typed.1 in (
       record {
         pc = hex_number 4 text;
         cycles = decimal_number numbers;
@@ -63,6 +72,7 @@ read_row text =
         p = p.0;
         switches = switches.0;
         keys = keys.0;
+        typed = typed.0;
         stores = stores.0;
       },
       stores.1,

@@ -31,6 +31,10 @@ switches_text (Some digit) = 0x77 ∷ hex_digit digit ∷ []
 abbrev pub keys_text : ℕ → List ℕ
 keys_text taken = if taken == 0 then [] else 0x6B ∷ decimal taken
 
+-- t and two digits for each key
+abbrev pub typed_text : List ℕ → List ℕ
+typed_text keys = flat_map (λ key. 0x74 ∷ hex_pair key) keys
+
 -- a byte's digits; before them m and the address, if it is not the next one
 abbrev pub store_text : ℕ → Store → List ℕ
 store_text next store = (if store.0 == next then [] else 0x6D ∷ hex_word store.0) ++ hex_pair store.1
@@ -44,7 +48,7 @@ stores_text next (store ∷ stores) = store_text next store ++ stores_text (stor
 abbrev pub no_address : ℕ
 no_address = 0x10000
 
--- a row's text before its stores: PC, cycles, and what changed
+-- a row's text before the keys that were typed and its stores: PC, cycles, and what changed
 unfoldable pub fields_of_parts : List ℕ → List ℕ → List ℕ → List ℕ → List ℕ → List ℕ → List ℕ → List ℕ → List ℕ → List ℕ
 fields_of_parts pc cycles a x y s p switches keys = concat (pc ∷ cycles ∷ a ∷ x ∷ y ∷ s ∷ p ∷ switches ∷ keys ∷ [])
 
@@ -56,7 +60,7 @@ fields_text change =
 
 -- the row of a step, as 03052a41 or 030B4m100001
 abbrev pub row_text : Change → List ℕ
-row_text change = fields_text change ++ (stores_text no_address change.stores ++ codes "\n")
+row_text change = fields_text change ++ (typed_text change.typed ++ (stores_text no_address change.stores ++ codes "\n"))
 
 -- What is before the rows
 

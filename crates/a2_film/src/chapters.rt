@@ -96,7 +96,7 @@ fn chapter_in(line: &[u8]) -> Option<Chapter<'_>>
 }
 
 // Returns the chapters in the lines of a script.
-fn chapters_in<'a, A: Allocator>(
+fn chapters_in<'a, A: Allocator + Copy>(
     alloc: A,
     lines: &[&'a [u8]],
 ) -> Result<Vec<Chapter<'a>, A>, ScriptFault>

@@ -7,29 +7,31 @@ ghost use Rattle.a2_stream.specs.Stream.{SendsOrBreaks};
 ghost use Rattle.a2_bus.specs.Memory.{ram_end};
 ghost use Rattle.a2_machine.specs.ByteRun.{bytes};
 ghost use Rattle.a2_machine.specs.Output as output;
-ghost use Rattle.a2_machine.specs.State.{code_of, world_of_state, IsMachineRun};
+ghost use Rattle.a2_machine.specs.State.{world_of_state};
 ghost use Rattle.a2_services.specs.Services.{service_at as service_at_of};
 ghost use Rattle.a2_run.specs.Answers.{Answers, is_read_fault};
 ghost use Rattle.a2_run.specs.Started.{guard_of_run};
 ghost use Rattle.a2_film.specs.Page as page;
 ghost use Rattle.a2_film.specs.Film.{IsFilmFrom, IsFilmOf};
-ghost use Rattle.a2_film.specs.Filmed.{most_kept, seen_by, seen_of, FilmsStep, HandsOn, Films, FilmsRest};
+ghost use Rattle.a2_film.specs.Filmed.{most_kept, seen_by, seen_of, FilmsStep, HandsOn, IsFilm};
 ghost use Rattle.a2_film.specs.Rows as spelt;
+ghost use Rattle.a2_film.specs.Runs.{lines_of};
 
 use crate::chapters::Chapter;
 use crate::head::{put_chapters, put_opening, put_program, put_start};
 use crate::kept::{append_changes, keep_low, low_end};
 use crate::page::{head, tail};
 use crate::rows::{MOST_KEPT, Moment, Rows, append_listed, begin_row};
+use crate::steps::{Again, Steps};
 use crate::stores::stores_at_pc;
 use a2_asm::Program;
-use a2_bus::Keys;
 use a2_hex::RAM_END;
 use a2_machine::{Cause, Machine, write_cause};
-use a2_run::{AssembledText, RunFault, started};
+use a2_run::{AssembledText, RunFault};
 use a2_services::{Service, service_at};
 use a2_stream::{Output, WriteFault, put};
 use a2_text::cut;
+use a2_timed_keys::Ended;
 use std::alloc::{AllocError, Allocator, Global};
 
 /// The part of a run that a film shows.
@@ -50,13 +52,12 @@ pub struct Titles<'a> {
     pub chapters: &'a [Chapter<'a>],
 }
 
-/// The run of a program of which a film shows a part.
+/// A finished run of which a film shows a part.
 #[derive(Clone, Copy)]
-pub struct FilmedRun<'a> {
-    /// The keys that wait at the start of the run.
-    pub keys: &'a Keys,
+pub struct FilmedRun<'e, 'a, A: Allocator = Global> {
+    pub ended: &'e Ended<'a, A>,
     pub window: Window,
-    /// Runs without the guard of the program's code.
+    /// Whether the film says that the run had no guard of the program's code.
     pub free: bool,
 }
 
@@ -70,75 +71,90 @@ pub struct Reel<A: Allocator = Global> {
     pub free: bool,
 }
 
-// Calls a service and appends its row, or returns the cause that forbids the call.
-fn film_call<A: Allocator>(
+// What a film shows before its rows, besides where it begins.
+#[derive(Clone, Copy)]
+struct Front<'t, 's, 'p, A: Allocator> {
+    titles: Titles<'t>,
+    text: &'s [u8],
+    free: bool,
+    program: &'p Program<A>,
+}
+
+// Calls a service and appends its row. Returns whether the run was not at its end.
+fn film_call<A: Allocator + Copy, S: Steps<A>>(
     service: Service,
-    machine: &mut Machine<A>,
+    steps: &mut S,
     seen: &mut Moment,
     ram: &mut [u8],
     rows: &mut Rows,
-) -> Option<Cause>
+) -> bool
     requires size { length ram.old ≡ ram_end }
-    requires service { Some service ≡ service_at_of machine.old.state.regs.pc }
-    requires seen { seen_by seen.old ≡ seen_of (world_of_state machine.old.state) }
+    requires service { Some service ≡ service_at_of (S.world steps.old).registers.pc }
+    requires seen { seen_by seen.old ≡ seen_of (S.world steps.old) }
     requires room { array_vec_len rows.old ≤ most_kept }
-    ensures step { FilmsStep machine.old machine.new rows.old.items rows.new.items result }
-    ensures seen { seen_by seen.new ≡ seen_of (world_of_state machine.new.state) }
+    ensures step { FilmsStep (S.rest steps.old) (S.rest steps.new) rows.old.items rows.new.items result }
+    ensures seen { seen_by seen.new ≡ seen_of (S.world steps.new) }
+    ensures size { length ram.new ≡ ram_end }
 {
+    let before = steps.machine();
     // For the prover alone: all of RAM is there.
-    let _ = machine.peek(0);
+    let _ = before.peek(0);
     let end = low_end(service);
-    keep_low(end, machine, ram);
-    let page1 = *machine.view().page1;
-    if let Some(cause) = machine.step() {
-        return Some(cause);
-    }
-    begin_row(rows, seen, machine);
-    append_changes(rows, end, ram, &page1, machine);
+    keep_low(end, before, ram);
+    let page1 = *before.view().page1;
+    let Some(typed) = steps.step() else {
+        return false;
+    };
+    let after = steps.machine();
+    begin_row(rows, seen, typed, after);
+    append_changes(rows, end, ram, &page1, after);
     rows.push(b'\n');
-    None
+    true
 }
 
-// Executes an instruction and appends its row, or returns the cause that forbids it.
-fn film_instruction<A: Allocator>(
-    machine: &mut Machine<A>,
+// Executes an instruction and appends its row. Returns whether the run was not at its end.
+fn film_instruction<A: Allocator + Copy, S: Steps<A>>(
+    steps: &mut S,
     seen: &mut Moment,
     rows: &mut Rows,
-) -> Option<Cause>
-    requires instruction { is_some (service_at_of machine.old.state.regs.pc) ≡ false }
-    requires seen { seen_by seen.old ≡ seen_of (world_of_state machine.old.state) }
+) -> bool
+    requires instruction { is_some (service_at_of (S.world steps.old).registers.pc) ≡ false }
+    requires seen { seen_by seen.old ≡ seen_of (S.world steps.old) }
     requires room { array_vec_len rows.old ≤ most_kept }
-    ensures step { FilmsStep machine.old machine.new rows.old.items rows.new.items result }
-    ensures seen { seen_by seen.new ≡ seen_of (world_of_state machine.new.state) }
+    ensures step { FilmsStep (S.rest steps.old) (S.rest steps.new) rows.old.items rows.new.items result }
+    ensures seen { seen_by seen.new ≡ seen_of (S.world steps.new) }
 {
+    let before = steps.machine();
     // For the prover alone: all of RAM is there.
-    let _ = machine.peek(0);
-    let addresses = stores_at_pc(machine);
-    if let Some(cause) = machine.step() {
-        return Some(cause);
-    }
-    begin_row(rows, seen, machine);
-    append_listed(rows, addresses.as_slice(), machine);
+    let _ = before.peek(0);
+    let addresses = stores_at_pc(before);
+    let Some(typed) = steps.step() else {
+        return false;
+    };
+    let after = steps.machine();
+    begin_row(rows, seen, typed, after);
+    append_listed(rows, addresses.as_slice(), after);
     rows.push(b'\n');
-    None
+    true
 }
 
-// Executes a step and appends its row, or returns the cause that forbids it. `seen` is the moment before the next step.
-fn film_step<A: Allocator>(
-    machine: &mut Machine<A>,
+// Executes a step and appends its row. Returns whether the run was not at its end. `seen` is the moment before the next step.
+fn film_step<A: Allocator + Copy, S: Steps<A>>(
+    steps: &mut S,
     seen: &mut Moment,
     ram: &mut [u8],
     rows: &mut Rows,
-) -> Option<Cause>
+) -> bool
     requires size { length ram.old ≡ ram_end }
-    requires seen { seen_by seen.old ≡ seen_of (world_of_state machine.old.state) }
+    requires seen { seen_by seen.old ≡ seen_of (S.world steps.old) }
     requires room { array_vec_len rows.old ≤ most_kept }
-    ensures step { FilmsStep machine.old machine.new rows.old.items rows.new.items result }
-    ensures seen { seen_by seen.new ≡ seen_of (world_of_state machine.new.state) }
+    ensures step { FilmsStep (S.rest steps.old) (S.rest steps.new) rows.old.items rows.new.items result }
+    ensures seen { seen_by seen.new ≡ seen_of (S.world steps.new) }
+    ensures size { length ram.new ≡ ram_end }
 {
-    match service_at(machine.regs().pc) {
-        Some(service) => film_call(service, machine, seen, ram, rows),
-        None => film_instruction(machine, seen, rows),
+    match service_at(steps.machine().regs().pc) {
+        Some(service) => film_call(service, steps, seen, ram, rows),
+        None => film_instruction(steps, seen, rows),
     }
 }
 
@@ -165,42 +181,31 @@ fn put_end<W: Output>(rows: &Rows, cause: Cause, writer: &mut W) -> Result<Cause
     Ok(cause)
 }
 
-// Executes the steps of a run, and writes a row for each; then writes the cause line.
-fn film_steps<A: Allocator, W: Output>(
-    machine: &mut Machine<A>,
+// Executes at most so many steps of a run, and writes a row for each; then writes the cause line.
+fn film_steps<A: Allocator + Copy, S: Steps<A>, W: Output>(
+    steps: &mut S,
     ram: &mut [u8],
     limit: u32,
     writer: &mut W,
 ) -> Result<Cause, WriteFault>
-    requires steps { machine.old.state.steps < 4_294_967_296 }
     requires size { length ram.old ≡ ram_end }
-    ensures { Films (code_of machine.old.state) (world_of_state machine.old.state) limit (W.taker writer.old) (W.taker writer.new)
-        result }
+    ensures lines { SendsOrBreaks (W.taker writer.old) (W.taker writer.new) result (lines_of (S.rest steps.old limit)) }
+    ensures cause { IfOk result (λ cause. cause ≡ (S.rest steps.old limit).cause) }
 {
-    let mut seen = Moment::of(machine);
+    let mut seen = Moment::of(steps.machine());
     let mut rows = Rows::new();
     for _ in 0..limit {
-        if let Some(cause) = film_step(machine, &mut seen, ram, &mut rows) {
-            return put_end(&rows, cause, writer);
+        if !film_step(steps, &mut seen, ram, &mut rows) {
+            return put_end(&rows, steps.cause(), writer);
         }
         put_many(&mut rows, writer)?;
     }
-    let cause = machine.run(0);
-    put_end(&rows, cause, writer)
-}
-
-// Executes so many steps, or those up to the run's end.
-fn go_on<A: Allocator>(machine: &mut Machine<A>, steps: u32) -> Cause
-    ensures run { IsMachineRun steps machine.old machine.new result }
-    // For the prover alone: a caller has the number in a field, whose range is not known there.
-    ensures range { steps < 4_294_967_296 }
-{
-    machine.run(steps)
+    put_end(&rows, steps.cause(), writer)
 }
 
 // Returns RAM that is 0 everywhere.
 #[tactic(auto, using(crate::proofs::Parts::zeros_anywhere))]
-fn blank_ram<A: Allocator>(alloc: A, size: usize) -> Result<Vec<u8, A>, AllocError>
+fn blank_ram<A: Allocator + Copy>(alloc: A, size: usize) -> Result<Vec<u8, A>, AllocError>
     ensures size { IfOk result (λ ram. length ram.items ≡ size) }
     ensures zeros { IfOk result (λ ram. (a : ℕ) → slice_index ram.items a ≡ 0) }
 {
@@ -209,7 +214,7 @@ fn blank_ram<A: Allocator>(alloc: A, size: usize) -> Result<Vec<u8, A>, AllocErr
 
 // Writes the page up to the rows: `ram` is 0 everywhere.
 #[tactic(auto, using(a2_stream::proofs::Joined::broke_off, a2_stream::proofs::Joined::went_on))]
-fn put_head<A: Allocator, W: Output>(
+fn put_head<A: Allocator + Copy, W: Output>(
     titles: Titles<'_>,
     texts: &[&[u8]],
     free: bool,
@@ -233,25 +238,56 @@ fn put_head<A: Allocator, W: Output>(
     put_start(ram, machine, writer)
 }
 
-// Runs a machine, and writes the rows and the end of the page.
-fn film_rest<A: Allocator, W: Output>(
-    machine: &mut Machine<A>,
+// Executes at most so many steps of a run, and writes the rows and the end of the page.
+#[tactic(auto, using(a2_stream::proofs::Joined::broke_off, a2_stream::proofs::Joined::went_on))]
+fn film_rest<A: Allocator + Copy, S: Steps<A>, W: Output>(
+    steps: &mut S,
     ram: &mut [u8],
     limit: u32,
     writer: &mut W,
 ) -> Result<Cause, WriteFault>
-    requires steps { machine.old.state.steps < 4_294_967_296 }
     requires size { length ram.old ≡ ram_end }
-    ensures { FilmsRest (code_of machine.old.state) (world_of_state machine.old.state) limit (W.taker writer.old)
-        (W.taker writer.new) result }
+    ensures lines { SendsOrBreaks (W.taker writer.old) (W.taker writer.new) result
+        (lines_of (S.rest steps.old limit) ++ page.tail) }
+    ensures cause { IfOk result (λ cause. cause ≡ (S.rest steps.old limit).cause) }
 {
-    let cause = film_steps(machine, ram, limit, writer)?;
+    let cause = film_steps(steps, ram, limit, writer)?;
     put(tail(), writer)?;
     Ok(cause)
 }
 
+// Writes the film of at most so many steps of a run.
+fn film_on<A: Allocator + Copy, S: Steps<A>, W: Output>(
+    alloc: A,
+    front: Front<'_, '_, '_, A>,
+    steps: &mut S,
+    limit: u32,
+    writer: &mut W,
+) -> Result<Cause, RunFault>
+    ensures meaning { Answers (λ _. ⊥) (IsFilm front.entry.text.now front.entry.titles.title.now front.entry.titles.chapters.now
+        front.entry.free front.entry.program.now (S.made steps.old) (S.world steps.old) (S.rest steps.old limit))
+        (W.taker writer.old) (W.taker writer.new) result }
+    ensures no_reader { is_read_fault result ≡ false }
+    // For the prover alone: a caller has the number in a field, whose range is not known there.
+    ensures range { limit < 4_294_967_296 }
+{
+    let texts = cut(alloc, front.text)?;
+    let mut ram = blank_ram(alloc, usize::from(RAM_END))?;
+    put_head(
+        front.titles,
+        texts.as_slice(),
+        front.free,
+        front.program,
+        &ram,
+        steps.machine(),
+        writer,
+    )?;
+    let cause = film_rest(steps, &mut ram, limit, writer)?;
+    Ok(cause)
+}
+
 // Guards a machine by a program, or frees it.
-fn guard_by<A: Allocator>(machine: &mut Machine<A>, program: &Program<A>, free: bool)
+fn guard_by<A: Allocator + Copy>(machine: &mut Machine<A>, program: &Program<A>, free: bool)
     ensures { machine.new ≡ (let s = machine.old.state in
         record machine.old { state = record s { guard = guard_of_run free program.now } }) }
 {
@@ -287,43 +323,41 @@ pub fn film_run<A: Allocator + Copy, W: Output>(
         free,
     } = reel;
     let program = assembled.program();
-    let texts = cut(alloc, assembled.text())?;
-    let mut ram = blank_ram(alloc, usize::from(RAM_END))?;
     guard_by(&mut machine, program, free);
-    put_head(
+    let front = Front {
         titles,
-        texts.as_slice(),
+        text: assembled.text(),
         free,
         program,
-        &ram,
-        &machine,
-        writer,
-    )?;
-    let cause = film_rest(&mut machine, &mut ram, limit, writer)?;
-    Ok(cause)
+    };
+    film_on(alloc, front, &mut machine, limit, writer)
 }
 
-/// Runs a source and writes the film of a window of its run, as [`film_run`] does. Returns the cause of the run's end, and
-/// `Cause::Limit` if the window ends before the run. Fails if a write fails, or if there is not enough memory. This project's profile.
+/// Writes the film of a window of a finished run, as [`film_run`] does, with the lines of an assembled text: the one whose program ran. A
+/// window that begins after the run's end shows its end. Returns the cause of the run's end, and `Cause::Limit` if the window ends
+/// before the run. Fails if a write fails, or if there is not enough memory. This project's profile.
 pub fn film_source<A: Allocator + Copy, W: Output>(
     alloc: A,
     assembled: &AssembledText<'_, A>,
     titles: Titles<'_>,
-    run: FilmedRun<'_>,
+    run: FilmedRun<'_, '_, A>,
     writer: &mut W,
 ) -> Result<Cause, RunFault>
     ensures meaning { Answers (λ _. ⊥) (IsFilmOf assembled.now.text titles.entry.title.now titles.entry.chapters.now
-        run.entry.keys.now run.entry.window run.entry.free) (W.taker writer.old) (W.taker writer.new) result }
+        run.entry.free run.entry.ended.now run.entry.window) (W.taker writer.old) (W.taker writer.new) result }
     ensures no_reader { is_read_fault result ≡ false }
 {
-    let program = assembled.program();
-    let mut machine = started(alloc, program, run.keys, run.free)?;
-    // (a run that ends before the window is filmed at its end: its cause comes again after the rows)
-    let _ = go_on(&mut machine, run.window.from);
-    let reel = Reel {
-        machine,
-        limit: run.window.steps,
-        free: run.free,
+    let FilmedRun {
+        ended,
+        window,
+        free,
+    } = run;
+    let mut again = Again::of(alloc, ended, window.from)?;
+    let front = Front {
+        titles,
+        text: assembled.text(),
+        free,
+        program: ended.program(),
     };
-    film_run(alloc, assembled, titles, reel, writer)
+    film_on(alloc, front, &mut again, window.steps, writer)
 }

@@ -120,7 +120,7 @@ fn put_source<W: Output>(texts: &[&[u8]], writer: &mut W) -> Result<(), WriteFau
 }
 
 // Returns how many bytes a statement puts in the image; DS puts none.
-fn laid<A: Allocator>(image: &Image<A>, statement: &Statement) -> u16
+fn laid<A: Allocator + Copy>(image: &Image<A>, statement: &Statement) -> u16
     ensures { result ≡ spelt.laid (held image.now) statement.now }
 {
     match image.get(statement.addr) {
@@ -155,7 +155,7 @@ fn put_statement<W: Output>(
 }
 
 // Writes the lines of statements.
-fn put_statements<A: Allocator, W: Output>(
+fn put_statements<A: Allocator + Copy, W: Output>(
     image: &Image<A>,
     statements: &[Statement],
     writer: &mut W,
@@ -183,7 +183,10 @@ fn put_name<W: Output>(name: &[u8], value: u16, writer: &mut W) -> Result<(), Wr
 }
 
 // Writes the names with their values.
-fn put_names<A: Allocator, W: Output>(names: &Names<A>, writer: &mut W) -> Result<(), WriteFault>
+fn put_names<A: Allocator + Copy, W: Output>(
+    names: &Names<A>,
+    writer: &mut W,
+) -> Result<(), WriteFault>
     ensures { SendsOrBreaks (W.taker writer.old) (W.taker writer.new) result (flat_map spelt.name_line (entries names.now)) }
 {
     for index in 0..names.len() {
@@ -197,7 +200,7 @@ fn put_names<A: Allocator, W: Output>(names: &Names<A>, writer: &mut W) -> Resul
 
 /// Writes the lines of the source, the statements and the names.
 #[tactic(auto, using(a2_stream::proofs::Joined::broke_off, a2_stream::proofs::Joined::went_on))]
-pub fn put_program<A: Allocator, W: Output>(
+pub fn put_program<A: Allocator + Copy, W: Output>(
     program: &Program<A>,
     texts: &[&[u8]],
     writer: &mut W,
@@ -229,7 +232,7 @@ fn put_counts<W: Output>(steps: u64, cycles: u64, writer: &mut W) -> Result<(), 
 }
 
 // Writes the bytes of RAM that differ from these.
-fn put_differing<A: Allocator, W: Output>(
+fn put_differing<A: Allocator + Copy, W: Output>(
     old: &[u8],
     machine: &Machine<A>,
     writer: &mut W,
@@ -255,7 +258,7 @@ fn put_differing<A: Allocator, W: Output>(
 
 // Writes RAM after a piece, where it differs from `blank`.
 #[tactic(auto, using(a2_stream::proofs::Joined::broke_off, a2_stream::proofs::Joined::went_on))]
-fn put_ram<A: Allocator, W: Output>(
+fn put_ram<A: Allocator + Copy, W: Output>(
     front: &[u8],
     blank: &[u8],
     machine: &Machine<A>,
@@ -272,7 +275,7 @@ fn put_ram<A: Allocator, W: Output>(
 }
 
 // Writes RAM at the start: `blank` is 0 everywhere.
-fn put_memory<A: Allocator, W: Output>(
+fn put_memory<A: Allocator + Copy, W: Output>(
     blank: &[u8],
     machine: &Machine<A>,
     writer: &mut W,
@@ -322,7 +325,7 @@ fn put_register_digits<W: Output>(
 }
 
 // Writes registers and switches at the start.
-fn put_registers<A: Allocator, W: Output>(
+fn put_registers<A: Allocator + Copy, W: Output>(
     machine: &Machine<A>,
     writer: &mut W,
 ) -> Result<(), WriteFault>
@@ -346,7 +349,7 @@ fn put_registers<A: Allocator, W: Output>(
 
 /// Writes the start: `blank` is RAM with 0 everywhere.
 #[tactic(auto, using(a2_stream::proofs::Joined::broke_off, a2_stream::proofs::Joined::went_on))]
-pub fn put_start<A: Allocator, W: Output>(
+pub fn put_start<A: Allocator + Copy, W: Output>(
     blank: &[u8],
     machine: &Machine<A>,
     writer: &mut W,

@@ -38,7 +38,7 @@ pub fn low_end(service: Service) -> u16
 }
 
 /// Copies the bytes of RAM from CH up to an end.
-pub fn keep_low<A: Allocator>(end: u16, machine: &Machine<A>, ram: &mut [u8])
+pub fn keep_low<A: Allocator + Copy>(end: u16, machine: &Machine<A>, ram: &mut [u8])
     requires end { end ≤ ram_end }
     requires size { length ram.old ≡ ram_end }
     ensures size { length ram.new ≡ length ram.old }
@@ -51,7 +51,7 @@ pub fn keep_low<A: Allocator>(end: u16, machine: &Machine<A>, ram: &mut [u8])
 
 // Appends the bytes of RAM from `first` up to `end` that differ from these, if `now` has those that are there: none, if both are
 // the same.
-fn append_piece<A: Allocator>(
+fn append_piece<A: Allocator + Copy>(
     rows: &mut Rows,
     next: u32,
     first: u16,
@@ -76,7 +76,7 @@ fn append_piece<A: Allocator>(
 }
 
 // Appends the bytes of page 1 that differ from these.
-fn append_page<A: Allocator>(
+fn append_page<A: Allocator + Copy>(
     rows: &mut Rows,
     next: u32,
     old: &[u8; 1024],
@@ -110,7 +110,7 @@ fn append_page<A: Allocator>(
 }
 
 /// Appends the bytes of RAM that differ from those before a call of a service: `ram` has those below page 1 from CH up to an end.
-pub fn append_changes<A: Allocator>(
+pub fn append_changes<A: Allocator + Copy>(
     rows: &mut Rows,
     end: u16,
     ram: &[u8],
@@ -120,7 +120,7 @@ pub fn append_changes<A: Allocator>(
     requires order { ch ≤ end }
     requires end { end ≤ 0x300 }
     requires size { length ram.now ≡ ram_end }
-    requires room { array_vec_len rows.old ≤ most_kept + 62 }
+    requires room { array_vec_len rows.old ≤ most_kept + 12_350 }
     ensures stores { let new = ram_byte (memory_of machine.now.state.bus) in
         rows.new.items ≡ rows.old.items ++ spelt.stores_text spelt.no_address
         (differing (from_address ch (slice_range ram.now ch end)) new ch (end - ch)

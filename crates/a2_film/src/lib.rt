@@ -14,6 +14,7 @@ mod head;
 mod kept;
 mod page;
 mod rows;
+mod steps;
 mod stores;
 mod texts;
 mod viewer;

@@ -1,6 +1,6 @@
 //! The rows of a film: what a step changed.
 
-ghost use Rattle.std.specs.Prelude.{◌≡◌, ◌≤◌, ◌+◌, ◌-◌, ◌*◌, ◌++◌, ◌∷◌, ◌==◌, [], if◌then◌else◌, length};
+ghost use Rattle.std.specs.Prelude.{◌≡◌, ◌≤◌, ◌+◌, ◌-◌, ◌*◌, ◌++◌, ◌∷◌, ◌==◌, ℕ, List, [], if◌then◌else◌, length};
 ghost use Rattle.std.specs.Fmt.{decimal as decimal_of};
 ghost use Rattle.arrayvec.specs.ArrayVec.{array_vec_len};
 ghost use Rattle.a2_text.specs.Digits.{hex_pair, hex_word};
@@ -35,7 +35,7 @@ pub struct Moment {
 
 impl Moment {
     /// Returns the moment of a machine.
-    pub fn of<A: Allocator>(machine: &Machine<A>) -> Moment
+    pub fn of<A: Allocator + Copy>(machine: &Machine<A>) -> Moment
         ensures { seen_by result ≡ seen_of (world_of_state machine.now.state) }
     {
         Moment {
@@ -47,12 +47,12 @@ impl Moment {
     }
 }
 
-/// Up to how many bytes rows have room for another: before its stores it has at most 62 bytes, each store has at most 7, and a step
-/// has at most 1,756 of them.
+/// Up to how many bytes rows have room for another: it has at most 62 bytes, and at most 4,096 keys of 3 bytes, before its stores. Each
+/// store has at most 7, and a step has at most 1,756 of them.
 pub const MOST_KEPT: usize = 1_024;
 
 /// Rows that are still to be written.
-pub type Rows = ArrayVec<u8, 13_424>;
+pub type Rows = ArrayVec<u8, 25_712>;
 
 // Appends a number in decimal digits.
 #[tactic(auto, using(std::proofs::lemmas::Fmt::decimal_digit))]
@@ -129,10 +129,10 @@ fn append_keys(rows: &mut Rows, taken: usize)
     }
 }
 
-// Appends the row of a step, up to its stores.
-fn append_fields(rows: &mut Rows, before: &Moment, after: &Moment)
+// Appends the row of a step, up to the keys that were typed after it; so many of the waiting keys are these.
+fn append_fields(rows: &mut Rows, before: &Moment, typed: usize, after: &Moment)
     requires { array_vec_len rows.old + 62 ≤ rows_room }
-    ensures items { rows.new.items ≡ rows.old.items ++ fields_between (seen_by before.now) (seen_by after.now) }
+    ensures items { rows.new.items ≡ rows.old.items ++ fields_between (seen_by before.now) typed (seen_by after.now) }
     ensures length { array_vec_len rows.new ≤ array_vec_len rows.old + 62 }
 {
     let (old, new) = (&before.regs, &after.regs);
@@ -144,20 +144,50 @@ fn append_fields(rows: &mut Rows, before: &Moment, after: &Moment)
     append_byte(rows, b's', old.s, new.s);
     append_byte(rows, b'p', old.p.pushed(), new.p.pushed());
     append_switches(rows, before.switches, after.switches);
-    append_keys(rows, before.waiting.saturating_sub(after.waiting));
+    let left = after.waiting.saturating_sub(typed);
+    append_keys(rows, before.waiting.saturating_sub(left));
 }
 
-/// Appends the row of the step that a machine has executed, up to its stores: `seen` is the moment before it, and then that after
-/// it.
-pub fn begin_row<A: Allocator>(rows: &mut Rows, seen: &mut Moment, machine: &Machine<A>)
-    requires { array_vec_len rows.old + 62 ≤ rows_room }
-    ensures items { rows.new.items
-        ≡ rows.old.items ++ fields_between (seen_by seen.old) (seen_of (world_of_state machine.now.state)) }
-    ensures length { array_vec_len rows.new ≤ array_vec_len rows.old + 62 }
+// Appends t and the digits of each key.
+fn append_typed(rows: &mut Rows, keys: &[u8])
+    requires { array_vec_len rows.old + 3 * length keys.now ≤ rows_room }
+    ensures items { rows.new.items ≡ rows.old.items ++ spelt.typed_text keys.now }
+    ensures length { array_vec_len rows.new ≤ array_vec_len rows.old + 3 * length keys.now }
+{
+    for key in keys {
+        rows.push(b't');
+        append_digits(rows, *key);
+    }
+}
+
+// Returns the last keys that wait.
+fn last_keys<A: Allocator + Copy>(machine: &Machine<A>, count: usize) -> &[u8]
+    ensures keys { (before keys : List ℕ) → machine.now.state.bus.devices.keys ≡ before ++ keys → count ≡ length keys
+        → result.now ≡ keys }
+    ensures few { length result.now ≤ 4096 }
+{
+    let waiting = machine.space().waiting();
+    &waiting[waiting.len().saturating_sub(count)..]
+}
+
+/// Appends the row of the step that a machine has executed, up to its stores, if so many keys were typed after it: `seen` is the moment
+/// before it, and then that after it.
+pub fn begin_row<A: Allocator + Copy>(
+    rows: &mut Rows,
+    seen: &mut Moment,
+    typed: usize,
+    machine: &Machine<A>,
+)
+    requires { array_vec_len rows.old + 12_350 ≤ rows_room }
+    ensures items { (before keys : List ℕ) → machine.now.state.bus.devices.keys ≡ before ++ keys → typed ≡ length keys
+        → rows.new.items ≡ (rows.old.items ++ fields_between (seen_by seen.old) typed (seen_of (world_of_state machine.now.state)))
+        ++ spelt.typed_text keys }
+    ensures length { array_vec_len rows.new ≤ array_vec_len rows.old + 12_350 }
     ensures seen { seen_by seen.new ≡ seen_of (world_of_state machine.now.state) }
 {
     let now = Moment::of(machine);
-    append_fields(rows, seen, &now);
+    append_fields(rows, seen, typed, &now);
+    append_typed(rows, last_keys(machine, typed));
     *seen = now;
 }
 
@@ -176,7 +206,7 @@ fn append_store(rows: &mut Rows, next: u32, address: u16, byte: u8) -> u32
 }
 
 /// Appends the bytes of RAM at these addresses.
-pub fn append_listed<A: Allocator>(rows: &mut Rows, addresses: &[u16], machine: &Machine<A>)
+pub fn append_listed<A: Allocator + Copy>(rows: &mut Rows, addresses: &[u16], machine: &Machine<A>)
     requires { array_vec_len rows.old + 7 * length addresses.now ≤ rows_room }
     ensures stores { rows.new.items ≡ rows.old.items
         ++ spelt.stores_text no_address (bytes_at (ram_byte (memory_of machine.now.state.bus)) addresses.now) }
@@ -204,7 +234,7 @@ fn append_other(rows: &mut Rows, next: u32, address: u16, old: u8, new: u8) -> u
 
 /// Appends the bytes of RAM from `first` up to `end` that differ from these. Returns at which address a byte after them would need
 /// no address of its own; `next` is that before them.
-pub fn append_others<A: Allocator>(
+pub fn append_others<A: Allocator + Copy>(
     rows: &mut Rows,
     next: u32,
     first: u16,

@@ -27,7 +27,7 @@ fn is_storing(mnemonic: Mnemonic) -> bool
 }
 
 // Returns whether the instruction at PC stores, as far as its opcode shows.
-fn may_store<A: Allocator>(machine: &Machine<A>) -> bool
+fn may_store<A: Allocator + Copy>(machine: &Machine<A>) -> bool
     ensures { result ≡ false → step_stores board_access (before_step machine.now.state.regs machine.now.state.bus) ≡ [] }
 {
     let Some(opcode) = machine.peek(machine.regs().pc) else {
@@ -40,7 +40,7 @@ fn may_store<A: Allocator>(machine: &Machine<A>) -> bool
 }
 
 /// Returns where the instruction at PC stores, in the order of its writes.
-pub fn stores_at_pc<A: Allocator>(machine: &Machine<A>) -> ArrayVec<u16, 2>
+pub fn stores_at_pc<A: Allocator + Copy>(machine: &Machine<A>) -> ArrayVec<u16, 2>
     ensures { result.items ≡ step_stores board_access (before_step machine.now.state.regs machine.now.state.bus) }
 {
     if may_store(machine) {

@@ -151,14 +151,14 @@ const B=F.from,last=T.lastIndexOf("\nSTOP ");F.stop=T.slice(last+6).trim();
 for(const q of F.list){let b="";for(let i=0;i<q[2];i++)b+=h(start[q[1]+i],2);q[2]=b}
 let N=0,total=0;
 for(let i=pos;i<=last;i++){const c=T.charCodeAt(i);if(c==10)N++;else if(c==109){let j=i+5;while(T.charCodeAt(j)<71&&T.charCodeAt(j)>47)j++;total+=(j-i-5)/2;i=j-1}}
-const PC=new Uint16Array(N+1),CY=new Float64Array(N+1),REG={},KEY=new Uint16Array(N+1),FIRST=new Uint32Array(N+2),ADR=new Uint16Array(total),NEW=new Uint8Array(total),OLD=new Uint8Array(total);
+const PC=new Uint16Array(N+1),CY=new Float64Array(N+1),REG={},KEY=new Uint32Array(N+1),COME=new Uint32Array(N+1),FIRST=new Uint32Array(N+2),ADR=new Uint16Array(total),NEW=new Uint8Array(total),OLD=new Uint8Array(total);
 for(const r of"axyspw")REG[r]=new Uint8Array(N+1);
 const GAP=max(1000,ceil(N/100)),KEYF=[],ram=start.slice(),SW=REG.w;
-PC[0]=S0[0];CY[0]=F.cy;[..."axyspw"].forEach((r,i)=>REG[r][0]=S0[i+1]);KEYF.push(start);
+PC[0]=S0[0];CY[0]=F.cy;COME[0]=F.keys.length/2;[..."axyspw"].forEach((r,i)=>REG[r][0]=S0[i+1]);KEYF.push(start);
 {let i=pos,n=0,k=0;
 const num=()=>{let v=0,d;while((d=D(T.charCodeAt(i)))>=0){v=v*10+d;i++}return v},hex=m=>{let v=0;while(m--)v=v*16+D(T.charCodeAt(i++));return v};
-for(k=1;k<=N;k++){FIRST[k]=n;for(const r in REG)REG[r][k]=REG[r][k-1];KEY[k]=KEY[k-1];PC[k]=hex(4);CY[k]=CY[k-1]+num();
-let t;while((t=T[i++])!="\n"){if(t=="m"){i=bytesAt(T,i-1,(a,b)=>{ADR[n]=a;OLD[n]=ram[a];ram[a]=NEW[n++]=b})}else if(t=="k")KEY[k]+=num();else if(t=="w")REG.w[k]=hex(1);else REG[t][k]=hex(2)}
+for(k=1;k<=N;k++){FIRST[k]=n;for(const r in REG)REG[r][k]=REG[r][k-1];KEY[k]=KEY[k-1];COME[k]=COME[k-1];PC[k]=hex(4);CY[k]=CY[k-1]+num();
+let t;while((t=T[i++])!="\n"){if(t=="m"){i=bytesAt(T,i-1,(a,b)=>{ADR[n]=a;OLD[n]=ram[a];ram[a]=NEW[n++]=b})}else if(t=="k")KEY[k]+=num();else if(t=="t"){F.keys+=T.slice(i,i+=2);COME[k]++}else if(t=="w")REG.w[k]=hex(1);else REG[t][k]=hex(2)}
 if(k%GAP==0)KEYF.push(ram.slice())}
 FIRST[N+1]=n;ram.set(start)}
 txt("film",T="");
@@ -235,6 +235,7 @@ if(ea>=0&&op>>5==4&&c==e)o.push("stores to "+esc(nm(ea))+(ea<RAM?", which alread
 const d=u("p")^v("p"),f=[..."NV..DIZC"].map((n,i)=>d>>7-i&1?n+(v("p")>>7-i&1?" set":" cleared"):"").filter(x=>x);
 if(f.length)o.push(f.join(", "));
 if(KEY[k]>KEY[k-1])o.push("takes "+esc(keyname(KEY[k-1],KEY[k])));
+const n=COME[k]-COME[k-1];if(n)o.push(esc(keyname(COME[k-1],COME[k]))+(n>1?" are":" is")+" typed");
 if(SW[k]!=SW[k-1])o.push("the screen now shows "+scrname(SW[k]));
 return o.filter(x=>x).join("; ")||"only PC changes"}
 function keyname(i,j){let o=[];for(;i<j;i++){const v=X(F.keys.substr(2*i,2));o.push(v==13?"RETURN":v==32?"blank":v<32?"Ctrl-"+chr(v+64):chr(v))}return(o.length>1?"keys ":"key ")+o.join(" ")}
@@ -318,7 +319,7 @@ for(const n of["A","X","Y","S","P","PC"]){const c=n=="PC"?PC:REG[n.toLowerCase()
 $("regs").innerHTML=r;
 $("flags").innerHTML=[..."NVDIZC"].map((n,i)=>{const b=7-"NV..DIZC".indexOf(n),p=REG.p[at],c=at&&(p^REG.p[at-1])>>b&1;return"<span"+(c?' class="ch"':"")+' title="'+["negative","overflow","decimal","interrupts disabled","zero","carry"][i]+'"><small>'+n+"</small><b>"+(p>>b&1)+"</b></span>"}).join("");
 let k="",p=REG.s[at]+1;for(let i=p;i<256&&i<p+16;i++)k+=" "+h(ram[256+i],2);
-txt("stk","Stack"+(p<256?" from "+hx(256+p,4)+":"+k+(p<240?" \u2026":""):": empty")+(F.keys?" \u00B7 keys taken: "+KEY[at]+" of "+F.keys.length/2:""));
+txt("stk","Stack"+(p<256?" from "+hx(256+p,4)+":"+k+(p<240?" \u2026":""):": empty")+(F.keys?" \u00B7 keys taken: "+KEY[at]+" of "+COME[at]:""));
 mem();whot();draw();hash()}
 function go(k){seek(k);show()}
 const lnk=()=>"#step="+(B+at)+(bps.size?"&bp="+[...bps].map(a=>LINE[a]):"");

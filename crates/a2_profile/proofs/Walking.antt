@@ -6,33 +6,25 @@ use Rattle.std.proofs.Common.{sym, ap, ap₂, ◌∙◌, subst, arith}
 use Rattle.std.proofs.lemmas.Bool.{and_parts, lt-ltb, ltb-true}
 use Rattle.std.proofs.lemmas.Bool.Decides.{nat_tests}
 use Rattle.std.proofs.lemmas.List.{length-map, get_or-map}
-use Rattle.std.proofs.lemmas.List.Elements.{All-filter, All-push, filter_passes}
+use Rattle.std.proofs.lemmas.List.Elements.{filter_passes}
 use Rattle.std.proofs.lemmas.List.Sums.{sum_by-cons}
 use Rattle.a2_bus.specs.Memory.{peek}
 use Rattle.a2_burst.specs.declared.observer.StepView.{StepView}
 use Rattle.a2_services.specs.World.{World}
-use Rattle.a2_asm.specs.Assembled.{Assembled}
-use Rattle.a2_asm.specs.Programs.{IsSound}
-use Rattle.a2_machine.specs.declared.causes.Cause.{Cause}
-use Rattle.a2_machine.specs.ByteRun.{bytes}
-use Rattle.a2_machine.specs.Meaning.{Code, IsEnd, world_at}
-use Rattle.a2_machine.specs.Looks.{shown_at, observer_after}
-use Rattle.a2_machine.specs.State.{Device, MachineState, world_of_state, code_of, IsMachineRun}
-use Rattle.a2_run.specs.Meaning.{code_of_run, start_of_run}
-use Rattle.a2_run.specs.Started.{IsStarted, guard_of_run}
-use Rattle.a2_run.proofs.Runs.{meant}
+use Rattle.a2_machine.specs.Looks.{observer_after}
+use Rattle.a2_timed_keys.specs.Finished.{Finished, IsFinished}
+use Rattle.a2_timed_keys.specs.Rerun.{worlds_of, end_of, shown_in}
 use Rattle.a2_symbols.specs.declared.routines.Entry.{Entry}
 use Rattle.a2_symbols.specs.Routines.{is_jsr, is_call, entry_at, is_within, with_call, entered}
 use Rattle.a2_profile.specs.declared.walk.Frame.{Frame}
 use Rattle.a2_profile.specs.declared.walk.Totals.{Totals}
-use Rattle.a2_profile.specs.Run.{is_at}
+use Rattle.a2_profile.specs.Run.{cost}
 use Rattle.a2_profile.specs.Totals.{itself, nothing, totals_at, own_steps_in, own_cycles_in}
-use Rattle.a2_profile.specs.Routines.{begin_of, around, innermost, is_in, is_own, is_entry, cost, totals_of, IsRoutineProfile}
+use Rattle.a2_profile.specs.Routines.{begin_of, around, is_in, is_own, is_entry, totals_of, IsRoutineProfile}
 use Rattle.a2_profile.specs.Seeing.{is_small}
 use Rattle.a2_profile.specs.Walks.{Walk, IsWalk, IsLow, most_steps, base, inner, depth_of, seen_at, counted, noted, opened, left_below, has_room, with_made, lost, shown_to, SeesAlike}
 use Rattle.a2_profile.specs.Walks as walks
-use Rattle.a2_profile.specs.Walked.{IsWalked}
-use Rattle.a2_profile.proofs.Going.{step-later, ended_by, run-ends, EndAlike, same-world}
+use Rattle.a2_profile.proofs.Going.{GoesLater, goes-later}
 use Rattle.a2_profile.proofs.WalkLaws.{with_step, with_entry, totals-alike, counted-walk, counted-seen, counted-times, noted-walk, noted-seen, opened-walk, seen-opened, stays-low, below-walk, below-alike, below-frames}
 
 -- The frames of a run
@@ -144,24 +136,24 @@ totals-next worlds n r = refl
 
 -- After n steps of a walk
 
-pub record IsAlong (code : Code) (start : World) (n : ℕ) (walk : Walk) : Type 0 where
+pub record IsAlong (worlds : ℕ → World) (n : ℕ) (walk : Walk) : Type 0 where
   pub is_walk : IsWalk walk
-  pub frames : walk.frames ≡ frames_of (world_at code start) n
-  pub seen : (r : ℕ) → r < 65537 → seen_at walk r ≡ totals_of (world_at code start) n r
+  pub frames : walk.frames ≡ frames_of worlds n
+  pub seen : (r : ℕ) → r < 65537 → seen_at walk r ≡ totals_of worlds n r
   pub steps : walk.steps ≡ n
-  pub cycles : walk.cycles ≡ (world_at code start n).cycles
+  pub cycles : walk.cycles ≡ (worlds n).cycles
 
 -- before the first step
-pub record IsBegun (start : World) (walk : Walk) : Type 0 where
+pub record IsBegun (worlds : ℕ → World) (walk : Walk) : Type 0 where
   pub is_walk : IsWalk walk
   pub frames : walk.frames ≡ base ∷ []
   pub seen : (r : ℕ) → r < 65537 → seen_at walk r ≡ nothing
   pub steps : walk.steps ≡ 0
-  pub cycles : walk.cycles ≡ start.cycles
+  pub cycles : walk.cycles ≡ (worlds 0).cycles
 
-along-none : (code : Code) (start : World) (walk : Walk) → IsBegun start walk → IsAlong code start 0 walk
-unfolding entered totals_of world_at
-along-none code start walk h = record { is_walk = h.is_walk; frames = h.frames; seen = h.seen; steps = h.steps; cycles = h.cycles }
+along-none : (worlds : ℕ → World) (walk : Walk) → IsBegun worlds walk → IsAlong worlds 0 walk
+unfolding entered totals_of
+along-none worlds walk h = record { is_walk = h.is_walk; frames = h.frames; seen = h.seen; steps = h.steps; cycles = h.cycles }
 
 -- the numbers of a view of a step are small
 record AreSmall (look : StepView) : Type 0 where
@@ -233,12 +225,9 @@ call-is : (o : Option ℕ) → (unwrap_or o 0 == 0x20) ≡ is_jsr o
 call-is None = refl
 call-is (Some byte) = refl
 
-module _ (code : Code) (start : World) (n : ℕ) (walk : Walk) (h : IsAlong code start n walk) (small : is_small ((shown_at code start n).look) ≡ true) (few : n < most_steps) where
-  abbrev worlds : ℕ → World
-  worlds = world_at code start
-
+module _ (worlds : ℕ → World) (n : ℕ) (walk : Walk) (h : IsAlong worlds n walk) (small : is_small ((shown_in worlds n).look) ≡ true) (later : GoesLater worlds) (few : n < most_steps) where
   abbrev look : StepView
-  look = (shown_at code start n).look
+  look = (shown_in worlds n).look
 
   sizes : AreSmall look
   sizes = are-small look small
@@ -283,35 +272,35 @@ module _ (code : Code) (start : World) (n : ℕ) (walk : Walk) (h : IsAlong code
       ∙ ap₂ (λ (b : Bool) (t : Totals). with_entry b t) (entry-is r) (step-is r low)
       ∙ sym (totals-next worlds n r)
 
-  pub along-next : IsAlong code start (suc n) (with_made ((shown_at code start n).look) walk)
+  pub along-next : IsAlong worlds (suc n) (with_made ((shown_in worlds n).look) walk)
   along-next = record {
     is_walk = below-walk look.next_s (walks.with_call look made) called.is_walk;
     frames = frames-next worlds n walk.frames (walks.with_call look made).frames left_now.frames (look.opcode == 0x20) look.next_pc look.s look.next_s h.frames
         called.frames calls-is refl refl refl sizes.next_s (below-frames look.next_s (walks.with_call look made) called.is_walk);
     seen = seen-now;
     steps = omega (arith, left-alike-is.steps, called.steps, h.steps);
-    cycles = omega (arith, left-alike-is.cycles, called.cycles, h.cycles, step-later code start n);
+    cycles = omega (arith, left-alike-is.cycles, called.cycles, h.cycles, later n);
   }
 
 -- if there are totals at the end, each step was seen
-along-after : (code : Code) (start : World) (first : Walk) → IsBegun start first → (n : ℕ) → n ≤ most_steps
-    → length (observer_after shown_to (shown_at code start) first n).totals ≡ 65537
-    → IsAlong code start n (observer_after shown_to (shown_at code start) first n)
+along-after : (worlds : ℕ → World) (first : Walk) → GoesLater worlds → IsBegun worlds first → (n : ℕ) → n ≤ most_steps
+    → length (observer_after shown_to (shown_in worlds) first n).totals ≡ 65537
+    → IsAlong worlds n (observer_after shown_to (shown_in worlds) first n)
 unfolding observer_after
-along-after code start first begun zero few size = along-none code start first begun
-along-after code start first begun (suc n) few size =
-    go (is_small look) (length before.totals == 65537) refl refl size (along-after code start first begun n (omega (arith, few)))
+along-after worlds first later begun zero few size = along-none worlds first begun
+along-after worlds first later begun (suc n) few size =
+    go (is_small look) (length before.totals == 65537) refl refl size (along-after worlds first later begun n (omega (arith, few)))
   where
     look : StepView
-    look = (shown_at code start n).look
+    look = (shown_in worlds n).look
 
     before : Walk
-    before = observer_after shown_to (shown_at code start) first n
+    before = observer_after shown_to (shown_in worlds) first n
 
     same-size : (a b : ℕ) → (a == b) ≡ true → a ≡ b
     same-size a b e = grind (arith, nat_tests, e)
 
-    room-is : IsAlong code start n before → has_room before ≡ true
+    room-is : IsAlong worlds n before → has_room before ≡ true
     room-is h = room before.steps (length before.frames) (omega (arith, h.steps, few)) (subst (λ (l : List Frame). 0 < length l) (sym h.frames) (omega arith))
       where
         room : (steps frames : ℕ) → steps < most_steps → 0 < frames → (nat_lt steps most_steps && not (frames == 0)) ≡ true
@@ -319,105 +308,34 @@ along-after code start first begun (suc n) few size =
 
     go : (small sized : Bool) → is_small look ≡ small → (length before.totals == 65537) ≡ sized
         → length (if small && sized then (if has_room before then with_made look before else before) else lost).totals ≡ 65537
-        → (length before.totals ≡ 65537 → IsAlong code start n before)
-        → IsAlong code start (suc n) (if small && sized then (if has_room before then with_made look before else before) else lost)
+        → (length before.totals ≡ 65537 → IsAlong worlds n before)
+        → IsAlong worlds (suc n) (if small && sized then (if has_room before then with_made look before else before) else lost)
     go true true e f size earlier =
         let h = earlier (same-size (length before.totals) 65537 f) in
-        subst (IsAlong code start (suc n)) (ap (λ (b : Bool). if b then with_made look before else before) (sym (room-is h)))
-        (along-next code start n before h e (omega (arith, few)))
+        subst (IsAlong worlds (suc n)) (ap (λ (b : Bool). if b then with_made look before else before) (sym (room-is h)))
+        (along-next worlds n before h e later (omega (arith, few)))
     go true false e f size earlier = absurd (omega (arith, size))
     go false sized e f size earlier = absurd (omega (arith, size))
 
-pub walked : (old new : Device) (limit : ℕ) (cause : Cause) (first walk : Walk) → old.state.steps ≡ 0 → IsBegun (world_of_state old.state) first → limit < 2 ^ 32
-    → IsWalk walk → IsMachineRun limit old new cause
-    → walk ≡ observer_after shown_to (shown_at (code_of old.state) (world_of_state old.state)) first (new.state.steps - old.state.steps)
-    → IsWalked (code_of old.state) (world_of_state old.state) limit walk cause
-walked old new limit cause first walk steps begun few is_walk run seen = record {
-  end = ended_by old new cause;
-  is_end = is;
-  cause_is = refl;
-  seen_are = done.seen;
-  steps = done.steps;
-  cycles = done.cycles ∙ sym (ap (λ (w : World). w.cycles) is.reached);
-}
-  where
-    n : ℕ
-    n = new.state.steps - old.state.steps
-
-    is : IsEnd (code_of old.state) (world_of_state old.state) limit (ended_by old new cause)
-    is = run-ends old new limit cause steps few run
-
-    done : IsAlong (code_of old.state) (world_of_state old.state) n walk
-    done =
-        subst (IsAlong (code_of old.state) (world_of_state old.state) n) (sym seen)
-        (along-after (code_of old.state) (world_of_state old.state) first begun n (omega (arith, is.within, few))
-        (ap (λ (w : Walk). length w.totals) (sym seen) ∙ is_walk.totals_size))
-
 -- The profile of the program's run
 
--- each routine was entered before
-pub entered-before : (worlds : ℕ → World) (n : ℕ) → All (λ (e : Entry). e.position < n) (entered worlds n)
-unfolding entered
-entered-before worlds zero = λ k d low. absurd (omega (arith, low))
-entered-before worlds (suc n) = All-filter (is_within (worlds (suc n))) (λ (e : Entry). e.position < suc n) (with_call n (worlds n) (entered worlds n)) (called (is_call (worlds n)) (λ k d low. omega (arith, entered-before worlds n k d low)))
-  where
-    called : (b : Bool) → All (λ (e : Entry). e.position < suc n) (entered worlds n) → All (λ (e : Entry). e.position < suc n) (if b then entered worlds n ++ entry_at n (worlds n) ∷ [] else entered worlds n)
-    called true earlier = All-push (λ (e : Entry). e.position < suc n) (entered worlds n) (entry_at n (worlds n)) earlier (omega arith)
-    called false earlier = earlier
-
--- Worlds that are the same up to a step
-
-pub entered-alike : (v w : ℕ → World) (n : ℕ) → ((k : ℕ) → k ≤ n → v k ≡ w k) → entered v n ≡ entered w n
-unfolding entered
-entered-alike v w zero alike = refl
-entered-alike v w (suc n) alike =
-    ap₂ (λ (a b : World). filter (is_within a) (with_call n b (entered v n))) (alike (suc n) (omega arith)) (alike n (omega arith))
-    ∙ ap (λ (es : List Entry). filter (is_within (w (suc n))) (with_call n (w n) es)) (entered-alike v w n (λ k le. alike k (omega (arith, le))))
-
-pub map-alike : {X Y : Type 0} (f g : X → Y) (P : X → Type 0) → ((x : X) → P x → f x ≡ g x) → (xs : List X) → All P xs → map f xs ≡ map g xs
-map-alike f g P same [] all = refl
-map-alike f g P same (x ∷ xs) all =
-    ap₂ (λ (y : _) (ys : List _). y ∷ ys) (same x (all 0 x (omega arith))) (map-alike f g P same xs (λ k d low. all (suc k) d (omega (arith, low))))
-
-around-alike : (v w : ℕ → World) (n : ℕ) → ((k : ℕ) → k ≤ n → v k ≡ w k) → around v n ≡ around w n
-around-alike v w n alike =
-    ap (λ (l : List ℕ). itself ∷ l) (map-alike (begin_of v) (begin_of w) (λ (e : Entry). e.position < n)
-    (λ e lt. ap (λ (a : World). a.registers.pc) (alike (suc e.position) (omega (arith, lt)))) (entered v n) (entered-before v n)
-    ∙ ap (map (begin_of w)) (entered-alike v w n alike))
-
-totals-alike-of : (v w : ℕ → World) (n r : ℕ) → ((k : ℕ) → k ≤ n → v k ≡ w k) → totals_of v n r ≡ totals_of w n r
-unfolding totals_of
-totals-alike-of v w zero r alike = refl
-totals-alike-of v w (suc n) r alike =
-    let before : (k : ℕ) → k ≤ n → v k ≡ w k = λ k le. alike k (omega (arith, le)) in
-    let here : v n ≡ w n = alike n (omega arith) in
-    let there : v (suc n) ≡ w (suc n) = alike (suc n) (omega arith) in
-    totals-next v n r
-    ∙ ap₂ (λ (a b : World). with_entry (is_call a && is_at b r) (with_step (is_own v r n) (is_in v r n) (b.cycles - a.cycles) (totals_of v n r))) here there
-    ∙ ap (λ (l : List ℕ). with_entry (is_entry w r n) (with_step (innermost l == r) (list_any (λ q. q == r) l) (cost w n) (totals_of v n r))) (around-alike v w n before)
-    ∙ ap (λ (t : Totals). with_entry (is_entry w r n) (with_step (is_own w r n) (is_in w r n) (cost w n) t)) (totals-alike-of v w n r before)
-    ∙ sym (totals-next w n r)
-
--- the totals of a machine at the start of a program's run are those of the program
-pub routines-of-run : (program : Assembled) (keys : List ℕ) (limit : ℕ) (free : Bool) (state : MachineState) → IsSound program → IsStarted free program keys state
-    → (walk : Walk) (cause : Cause) → IsWalked (code_of state) (world_of_state state) limit walk cause → (totals : List Totals)
+-- a walk that saw a finished run knows the totals of its routines
+pub walked : (f : Finished) (first walk : Walk) → IsFinished f → f.limit < 4294967296 → IsBegun (worlds_of f) first → IsWalk walk
+    → walk ≡ observer_after shown_to (shown_in (worlds_of f)) first (end_of f).steps → (totals : List Totals)
     → ((r : ℕ) → r < 65537 → totals_at totals r ≡ seen_at walk r) → own_steps_in totals ≡ walk.steps → own_cycles_in totals ≡ walk.cycles
-    → IsRoutineProfile program keys limit free totals cause
-routines-of-run program keys limit free state sound started walk cause is totals seen steps cycles =
-    let guarded = bytes (guard_of_run free program) in
-    let code = code_of_run free program in
-    let start = start_of_run program keys in
-    let alike : EndAlike guarded code start = λ most end ends. meant free program keys most end sound ends in
-    let done : IsWalked guarded start limit walk cause
-    = subst (λ (k : Code). IsWalked k start limit walk cause) (ap bytes started.guard)
-    (subst (λ (w : World). IsWalked (code_of state) w limit walk cause) started.world is) in
-    record {
-      end = done.end;
-      is_end = alike limit done.end done.is_end;
-      cause_is = done.cause_is;
-      totals_are = λ r low. seen r low ∙ done.seen_are r low
-          ∙ totals-alike-of (world_at guarded start) (world_at code start) done.end.steps r
-          (λ k le. same-world guarded code start k alike (λ j lt. done.is_end.first j (omega (arith, lt, le))));
-      steps_are = steps ∙ done.steps;
-      cycles_are = cycles ∙ done.cycles;
-    }
+    → IsRoutineProfile f.program f.keys f.log f.limit f.free totals f.cause
+unfolding worlds_of
+walked f first walk is few begun is_walk seen totals all steps cycles = record {
+  end = is.end;
+  is_end = is.is_end;
+  cause_is = is.cause_is;
+  totals_are = λ r low. all r low ∙ done.seen r low ∙ ap (λ (n : ℕ). totals_of (worlds_of f) n r) is.steps_are;
+  steps_are = steps ∙ done.steps ∙ is.steps_are;
+  cycles_are = cycles ∙ done.cycles ∙ ap (λ (n : ℕ). (worlds_of f n).cycles) is.steps_are ∙ sym (ap (λ (w : World). w.cycles) is.is_end.reached);
+}
+  where
+    done : IsAlong (worlds_of f) f.machine.state.steps walk
+    done =
+        subst (IsAlong (worlds_of f) f.machine.state.steps) (sym seen)
+        (along-after (worlds_of f) first (goes-later f) begun f.machine.state.steps (omega (arith, is.steps_are, is.is_end.within, few))
+        (ap (λ (w : Walk). length w.totals) (sym seen) ∙ is_walk.totals_size))

@@ -4,7 +4,6 @@ pub mod Run
 pub mod Totals
 pub mod Routines
 pub mod Walks
-pub mod Walked
 pub mod Table
 pub mod RoutineTable
 pub mod Runs

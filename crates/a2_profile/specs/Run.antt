@@ -3,8 +3,10 @@ use Rattle.std.specs.Prelude.{◌≡◌, ℕ, zero, suc, ◌+◌, ◌-◌, ◌%�
 use Rattle.a2_asm.specs.Assembled.{Assembled}
 use Rattle.a2_services.specs.World.{World}
 use Rattle.a2_machine.specs.declared.causes.Cause.{Cause}
-use Rattle.a2_machine.specs.Meaning.{Code, End, IsEnd, world_at}
+use Rattle.a2_machine.specs.Meaning.{Code, End}
 use Rattle.a2_run.specs.Meaning.{code_of_run, start_of_run}
+use Rattle.a2_timed_keys.specs.declared.strokes.Typed.{Typed}
+use Rattle.a2_timed_keys.specs.Typed.{world_with_keys, IsTypedEnd}
 use Rattle.a2_profile.specs.declared.profile.Count.{Count}
 use Rattle.a2_profile.specs.Counts.{count_at, steps_in, cycles_in}
 
@@ -16,40 +18,40 @@ over_steps number (suc n) = over_steps number n + number n
 abbrev pub is_at : World → ℕ → Bool
 is_at world address = world.registers.pc == address
 
--- how many of the first n steps of a run begin at an address
-unfoldable pub done_at : Code → World → ℕ → ℕ → ℕ
-done_at code start address n = over_steps (λ k. if is_at (world_at code start k) address then 1 else 0) n
+-- the cycles that a step takes
+abbrev pub cost : (ℕ → World) → ℕ → ℕ
+cost worlds n = (worlds (suc n)).cycles - (worlds n).cycles
+
+-- how many of the first n steps between these worlds begin at an address
+unfoldable pub done_at : (ℕ → World) → ℕ → ℕ → ℕ
+done_at worlds address n = over_steps (λ k. if is_at (worlds k) address then 1 else 0) n
 
 -- the cycles that these take
-unfoldable pub cycles_at : Code → World → ℕ → ℕ → ℕ
-cycles_at code start address n =
-    over_steps (λ k. if is_at (world_at code start k) address
-    then (world_at code start (suc k)).cycles - (world_at code start k).cycles else 0) n
+unfoldable pub cycles_at : (ℕ → World) → ℕ → ℕ → ℕ
+cycles_at worlds address n = over_steps (λ k. if is_at (worlds k) address then cost worlds k else 0) n
 
 -- how many of them do not continue two bytes further, where a branch continues that is not taken
-unfoldable pub taken_at : Code → World → ℕ → ℕ → ℕ
-taken_at code start address n =
-    over_steps (λ k. if is_at (world_at code start k) address && not (is_at (world_at code start (suc k)) ((address + 2) % 65536))
-    then 1 else 0) n
+unfoldable pub taken_at : (ℕ → World) → ℕ → ℕ → ℕ
+taken_at worlds address n =
+    over_steps (λ k. if is_at (worlds k) address && not (is_at (worlds (suc k)) ((address + 2) % 65536)) then 1 else 0) n
 
 -- the count of an address
-abbrev pub count_of : Code → World → ℕ → ℕ → Count
-count_of code start n address = record {
-  times = done_at code start address n;
-  cycles = cycles_at code start address n;
-  taken = taken_at code start address n;
-}
+abbrev pub count_of : (ℕ → World) → ℕ → ℕ → Count
+count_of worlds n address =
+    record { times = done_at worlds address n; cycles = cycles_at worlds address n; taken = taken_at worlds address n }
 
--- a run with a limit ends by this cause, and these are the counts of its steps at each address; all together are the run's steps
--- and cycles
-pub record AreCounts (code : Code) (start : World) (limit : ℕ) (counts : List Count) (cause : Cause) : Type 0 where
+-- a run with a limit, in which these keys are typed, ends by this cause, and these are the counts of its steps at each address; all
+-- together are the run's steps and cycles
+pub record AreCounts (code : Code) (start : World) (log : List Typed) (limit : ℕ) (counts : List Count) (cause : Cause) : Type 0 where
   pub end : End
-  pub is_end : IsEnd code start limit end
+  pub is_end : IsTypedEnd code start log limit end
   pub cause_is : cause ≡ end.cause
-  pub counts_are : (address : ℕ) → address < 65536 → count_at counts address ≡ count_of code start end.steps address
+  pub counts_are : (address : ℕ) → address < 65536
+      → count_at counts address ≡ count_of (world_with_keys code start log) end.steps address
   pub steps_are : steps_in counts ≡ end.steps
   pub cycles_are : cycles_in counts ≡ end.world.cycles
 
 -- the same of a program's run with these keys waiting, with the code and start of the run of `IsRun`
-abbrev pub IsProfile : Assembled → List ℕ → ℕ → Bool → List Count → Cause → Type 0
-IsProfile program keys limit free counts cause = AreCounts (code_of_run free program) (start_of_run program keys) limit counts cause
+abbrev pub IsProfile : Assembled → List ℕ → List Typed → ℕ → Bool → List Count → Cause → Type 0
+IsProfile program keys log limit free counts cause =
+    AreCounts (code_of_run free program) (start_of_run program keys) log limit counts cause

@@ -105,7 +105,11 @@ fn put_function<'a, W: Output>(
 }
 
 // Returns the name of what begins at an address, or else these digits of the address.
-fn name_or<'a, A: Allocator>(program: &'a Program<A>, address: u16, digits: &'a [u8; 5]) -> &'a [u8]
+fn name_or<'a, A: Allocator + Copy>(
+    program: &'a Program<A>,
+    address: u16,
+    digits: &'a [u8; 5],
+) -> &'a [u8]
     ensures { result.now ≡ (if length (name_at program.now.names address) == 0 then digits.now
         else name_at program.now.names address) }
 {
@@ -122,7 +126,7 @@ fn address_digits(address: u16) -> [u8; 5]
 }
 
 // Writes the cost of the instruction on a line, if there is one and it was executed.
-fn put_line<A: Allocator, W: Output>(
+fn put_line<A: Allocator + Copy, W: Output>(
     profile: &Profile<A>,
     statement: Option<Statement>,
     number: usize,
@@ -141,7 +145,7 @@ fn put_line<A: Allocator, W: Output>(
 }
 
 // Writes the function of the source, with the costs of all lines.
-fn put_lines<A: Allocator, W: Output>(
+fn put_lines<A: Allocator + Copy, W: Output>(
     profile: &Profile<A>,
     statements: &[Statement],
     texts: &[&[u8]],
@@ -167,7 +171,7 @@ struct OutsideRecords<'a, A: Allocator, B: Allocator> {
     profile: &'a Profile<A>,
 }
 
-impl<'a, A: Allocator, B: Allocator> ByAddress for OutsideRecords<'a, A, B> {
+impl<'a, A: Allocator + Copy, B: Allocator + Copy> ByAddress for OutsideRecords<'a, A, B> {
     ghost text = { λ records address. callgrind.outside_record records.program.now records.profile.now address };
 
     fn put<W: Output>(&self, address: u16, writer: &mut W) -> Result<(), WriteFault> {
@@ -190,7 +194,7 @@ impl<'a, A: Allocator, B: Allocator> ByAddress for OutsideRecords<'a, A, B> {
 /// # Errors
 ///
 /// `WriteFault` if a write failed: no further write follows, and a front of the file was written.
-pub fn write_callgrind<A: Allocator, B: Allocator, W: Output>(
+pub fn write_callgrind<A: Allocator + Copy, B: Allocator + Copy, W: Output>(
     name: &[u8],
     program: &Program<B>,
     texts: &[&[u8]],
@@ -245,7 +249,7 @@ struct RoutineRecords<'a, A: Allocator, B: Allocator> {
     profile: &'a RoutineProfile<A>,
 }
 
-impl<'a, A: Allocator, B: Allocator> ByAddress for RoutineRecords<'a, A, B> {
+impl<'a, A: Allocator + Copy, B: Allocator + Copy> ByAddress for RoutineRecords<'a, A, B> {
     ghost text = { λ records address. callgrind.routine_record records.program.now records.profile.now address };
 
     fn put<W: Output>(&self, address: u16, writer: &mut W) -> Result<(), WriteFault> {
@@ -261,7 +265,7 @@ impl<'a, A: Allocator, B: Allocator> ByAddress for RoutineRecords<'a, A, B> {
 }
 
 // Writes the program itself.
-fn put_itself<A: Allocator, B: Allocator, W: Output>(
+fn put_itself<A: Allocator + Copy, B: Allocator + Copy, W: Output>(
     program: &Program<B>,
     profile: &RoutineProfile<A>,
     writer: &mut W,
@@ -280,7 +284,7 @@ fn put_itself<A: Allocator, B: Allocator, W: Output>(
 /// # Errors
 ///
 /// `WriteFault` if a write failed: no further write follows, and a front of the file was written.
-pub fn write_routine_callgrind<A: Allocator, B: Allocator, W: Output>(
+pub fn write_routine_callgrind<A: Allocator + Copy, B: Allocator + Copy, W: Output>(
     name: &[u8],
     program: &Program<B>,
     profile: &RoutineProfile<A>,

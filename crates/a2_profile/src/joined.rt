@@ -68,7 +68,7 @@ fn join_totals(totals: &mut [Totals], others: &[Totals])
     }
 }
 
-impl<A: Allocator> RoutineProfile<A> {
+impl<A: Allocator + Copy> RoutineProfile<A> {
     /// Returns a profile of no steps, in memory of `alloc`. Fails only if there is not enough memory.
     pub fn new(alloc: A) -> Result<RoutineProfile<A>, AllocError>
         ensures { IfOk result (λ profile. profile ≡ replicate 65537 nothing) }
@@ -82,7 +82,10 @@ impl<A: Allocator> RoutineProfile<A> {
 
     /// Also counts what is counted in `other`. Fails exactly if a sum would exceed 2^64 - 1: how often a routine was entered, its
     /// steps with those of what it calls, or all steps or cycles; then nothing changes.
-    pub fn join<B: Allocator>(&mut self, other: &RoutineProfile<B>) -> Result<(), ProfileFull>
+    pub fn join<B: Allocator + Copy>(
+        &mut self,
+        other: &RoutineProfile<B>,
+    ) -> Result<(), ProfileFull>
         ensures room { IsOk result ↔ HaveRoom self.old other.now }
         ensures joined { OnOk result ((routine : ℕ) → totals_at self.new routine
             ≡ joined_totals (totals_at self.old routine) (totals_at other.now routine)) }

@@ -103,7 +103,7 @@ fn put_branch<W: Output>(is_branch: bool, count: Count, writer: &mut W) -> Resul
 
 // Writes what is counted of the instruction on a line, if there is one.
 #[tactic(auto, using(a2_stream::proofs::Joined::broke_off, a2_stream::proofs::Joined::went_on))]
-fn put_statement<A: Allocator, W: Output>(
+fn put_statement<A: Allocator + Copy, W: Output>(
     profile: &Profile<A>,
     statement: Option<Statement>,
     writer: &mut W,
@@ -128,7 +128,7 @@ fn put_head<W: Output>(number: usize, writer: &mut W) -> Result<(), WriteFault>
 }
 
 // Writes the object of a line, after the text before it.
-fn put_line<'a, A: Allocator, W: Output>(
+fn put_line<'a, A: Allocator + Copy, W: Output>(
     front: &'a [u8],
     profile: &Profile<A>,
     statement: Option<Statement>,
@@ -146,7 +146,7 @@ fn put_line<'a, A: Allocator, W: Output>(
 }
 
 // Writes the array of all lines.
-fn put_lines<A: Allocator, W: Output>(
+fn put_lines<A: Allocator + Copy, W: Output>(
     profile: &Profile<A>,
     statements: &[Statement],
     texts: &[&[u8]],
@@ -168,7 +168,7 @@ fn put_lines<A: Allocator, W: Output>(
 }
 
 // Writes the array of the other addresses where steps began.
-fn put_outsides<A: Allocator, B: Allocator, W: Output>(
+fn put_outsides<A: Allocator + Copy, B: Allocator + Copy, W: Output>(
     program: &Program<B>,
     profile: &Profile<A>,
     writer: &mut W,
@@ -198,7 +198,7 @@ fn put_number<'a, W: Output>(front: &'a [u8], number: u16, writer: &mut W) -> Re
 }
 
 // Writes the array of the numbers of the lines that were never executed.
-fn put_never<A: Allocator, W: Output>(
+fn put_never<A: Allocator + Copy, W: Output>(
     profile: &Profile<A>,
     statements: &[Statement],
     writer: &mut W,
@@ -263,7 +263,7 @@ pub(crate) fn put_sums<W: Output>(steps: u64, cycles: u64, writer: &mut W) -> Re
 /// # Errors
 ///
 /// `WriteFault` if a write failed: no further write follows, and a front of the object was written.
-pub fn write_json<A: Allocator, B: Allocator, W: Output>(
+pub fn write_json<A: Allocator + Copy, B: Allocator + Copy, W: Output>(
     program: &Program<B>,
     texts: &[&[u8]],
     profile: &Profile<A>,

@@ -30,7 +30,7 @@ const NONE: Count = Count {
 };
 
 // Returns a count of no step for each address.
-fn no_counts<A: Allocator>(alloc: A) -> Result<Vec<Count, A>, AllocError>
+fn no_counts<A: Allocator + Copy>(alloc: A) -> Result<Vec<Count, A>, AllocError>
     ensures { IfOk result (λ counts. counts.items ≡ replicate 65536 none) }
 {
     vec![in alloc; NONE; ADDRESSES as usize]
@@ -92,7 +92,7 @@ fn join_counts(counts: &mut [Count], others: &[Count])
     }
 }
 
-impl<A: Allocator> Profile<A> {
+impl<A: Allocator + Copy> Profile<A> {
     /// Returns a profile of no steps, in memory of `alloc`. Fails only if there is not enough memory.
     pub fn new(alloc: A) -> Result<Profile<A>, AllocError>
         ensures { IfOk result (λ profile. profile ≡ replicate 65536 none) }
@@ -130,7 +130,7 @@ impl<A: Allocator> Profile<A> {
 
     /// Also counts the steps of `other`. Fails exactly if the steps or the cycles of both would exceed 2^64 - 1; then nothing
     /// changes.
-    pub fn join<B: Allocator>(&mut self, other: &Profile<B>) -> Result<(), ProfileFull>
+    pub fn join<B: Allocator + Copy>(&mut self, other: &Profile<B>) -> Result<(), ProfileFull>
         ensures room { IsOk result ↔ ((steps_in self.old + steps_in other.now < 2 ^ 64)
             × (cycles_in self.old + cycles_in other.now < 2 ^ 64)) }
         ensures joined { OnOk result ((address : ℕ) → count_at self.new address
@@ -169,7 +169,7 @@ impl<A: Allocator> Model for Counting<A> {
     ghost invariant = { λ c. length c.counts.items ≡ 65536 };
 }
 
-impl<A: Allocator> Counting<A> {
+impl<A: Allocator + Copy> Counting<A> {
     /// Returns counts of no step.
     pub fn new(alloc: A) -> Result<Counting<A>, AllocError>
         ensures { IfOk result (λ counting. counting ≡ replicate 65536 none) }
@@ -200,7 +200,7 @@ impl<A: Allocator> Counting<A> {
     }
 }
 
-impl<A: Allocator> Observer for Counting<A> {
+impl<A: Allocator + Copy> Observer for Counting<A> {
     ghost seen = { shown_to };
 
     // No count of a run reaches 2^64.

@@ -59,7 +59,7 @@ fn put_entry<W: Output>(address: u16, times: u64, writer: &mut W) -> Result<(), 
 }
 
 // Writes the object of a routine, after the text before it.
-fn put_routine<A: Allocator, B: Allocator, W: Output>(
+fn put_routine<A: Allocator + Copy, B: Allocator + Copy, W: Output>(
     front: &[u8],
     names: &Names<B>,
     profile: &RoutineProfile<A>,
@@ -77,14 +77,14 @@ fn put_routine<A: Allocator, B: Allocator, W: Output>(
 }
 
 // Returns whether a routine was entered.
-fn is_entered<A: Allocator>(profile: &RoutineProfile<A>, address: u16) -> bool
+fn is_entered<A: Allocator + Copy>(profile: &RoutineProfile<A>, address: u16) -> bool
     ensures { result ≡ json.is_entered profile.now address }
 {
     profile.at(address).times != 0
 }
 
 // Writes the array of the routines that were entered.
-fn put_routines<A: Allocator, B: Allocator, W: Output>(
+fn put_routines<A: Allocator + Copy, B: Allocator + Copy, W: Output>(
     names: &Names<B>,
     profile: &RoutineProfile<A>,
     writer: &mut W,
@@ -111,7 +111,7 @@ fn put_routines<A: Allocator, B: Allocator, W: Output>(
 /// # Errors
 ///
 /// `WriteFault` if a write failed: no further write follows, and a front of the object was written.
-pub fn write_routine_json<A: Allocator, B: Allocator, W: Output>(
+pub fn write_routine_json<A: Allocator + Copy, B: Allocator + Copy, W: Output>(
     program: &Program<B>,
     profile: &RoutineProfile<A>,
     causes: &[Cause],

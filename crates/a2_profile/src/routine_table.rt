@@ -98,7 +98,7 @@ fn itself_text() -> &'static [u8]
 }
 
 // Writes the row of the program itself.
-fn put_itself<A: Allocator, W: Output>(
+fn put_itself<A: Allocator + Copy, W: Output>(
     profile: &RoutineProfile<A>,
     writer: &mut W,
 ) -> Result<(), WriteFault>
@@ -115,7 +115,7 @@ fn put_itself<A: Allocator, W: Output>(
 }
 
 /// Returns the first of these names with this address as its value, or nothing. This project's profile.
-pub fn name_of<A: Allocator>(names: &Names<A>, address: u16) -> &[u8]
+pub fn name_of<A: Allocator + Copy>(names: &Names<A>, address: u16) -> &[u8]
     ensures { result.now ≡ table.name_of (entries names.now) address }
 {
     for index in 0..names.len() {
@@ -136,7 +136,7 @@ struct RoutineRows<'a, A: Allocator, B: Allocator> {
     profile: &'a RoutineProfile<A>,
 }
 
-impl<'a, A: Allocator, B: Allocator> ByAddress for RoutineRows<'a, A, B> {
+impl<'a, A: Allocator + Copy, B: Allocator + Copy> ByAddress for RoutineRows<'a, A, B> {
     ghost text = { λ rows address. table.routine_row rows.program.now.names rows.profile.now address };
 
     fn put<W: Output>(&self, address: u16, writer: &mut W) -> Result<(), WriteFault> {
@@ -182,7 +182,7 @@ fn put_heading<W: Output>(writer: &mut W) -> Result<(), WriteFault>
 /// # Errors
 ///
 /// `WriteFault` if a write failed: no further write follows, and a front of the table was written.
-pub fn write_routines<A: Allocator, B: Allocator, W: Output>(
+pub fn write_routines<A: Allocator + Copy, B: Allocator + Copy, W: Output>(
     program: &Program<B>,
     profile: &RoutineProfile<A>,
     writer: &mut W,

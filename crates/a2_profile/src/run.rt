@@ -1,50 +1,33 @@
 //! The profile of a run.
 
-ghost use Rattle.std.specs.Prelude.{◌≡◌, replicate, IfOk};
-ghost use Rattle.a2_machine.specs.State.{code_of, world_of_state};
-ghost use Rattle.a2_profile.specs.Counts.{none};
-ghost use Rattle.a2_profile.specs.Run.{AreCounts, IsProfile};
+ghost use Rattle.std.specs.Prelude.{IfOk, IfErr};
+ghost use Rattle.a2_profile.specs.Run.{IsProfile};
+ghost use Rattle.a2_timed_keys.specs.Typed.{IsTypedFault};
 
 use crate::Profile;
 use crate::profile::Counting;
 use a2_asm::Program;
-use a2_bus::Keys;
-use a2_machine::{Cause, Machine};
-use a2_run::started;
-use std::alloc::{AllocError, Allocator};
+use a2_machine::Cause;
+use a2_timed_keys::{Ended, TimedArgs, TypedFault};
+use std::alloc::Allocator;
 
-// Runs a machine from its start, and counts each step as it is executed.
-fn profile_machine<A: Allocator, B: Allocator>(
-    machine: &mut Machine<A>,
-    limit: u32,
-    mut counting: Counting<B>,
-) -> (Profile<B>, Cause)
-    requires steps { machine.old.state.steps ≡ 0 }
-    requires cycles { machine.old.state.cycles ≡ 0 }
-    requires empty { counting ≡ replicate 65536 none }
-    ensures { AreCounts (code_of machine.old.state) (world_of_state machine.old.state) limit result.0 result.1 }
-{
-    let cause = machine.run_observed(limit, &mut counting);
-    // For the prover alone: each step that was seen is one of a machine.
-    counting.is_whole();
-    let profile = counting.profile(machine.steps(), machine.cycles());
-    (profile, cause)
-}
-
-/// Runs `program` with these keys waiting, and counts its steps. Also returns the cause of the run's end. `limit` is the most
-/// steps, `free` runs without the guard. Fails only if there is not enough memory. This project's profile.
+/// Runs `program` as [`Ended::of`] does, and counts its steps. Also returns the cause of the run's end. Fails if after some steps
+/// more than 4,096 keys would wait, or if there is not enough memory. This project's profile.
 pub fn profile_run<A: Allocator + Copy>(
     alloc: A,
     program: &Program<A>,
-    keys: &Keys,
-    limit: u32,
-    free: bool,
-) -> Result<(Profile<A>, Cause), AllocError>
-    ensures { IfOk result (λ answer. IsProfile program.now keys.now limit free answer.0 answer.1) }
+    args: TimedArgs<'_, A>,
+) -> Result<(Profile<A>, Cause), TypedFault>
+    ensures counted { IfOk result (λ (profile, cause). IsProfile program.now args.entry.run.keys.now args.entry.strokes.now
+        args.entry.run.limit args.entry.run.free profile cause) }
+    ensures refused { IfErr result (λ fault. IsTypedFault program.now args.entry.run.keys.now args.entry.strokes.now
+        args.entry.run.limit args.entry.run.free fault) }
 {
-    // For the prover alone: a law of every program, by which the guarded bytes run as its statements.
-    program.is_sound();
-    let mut machine = started(alloc, program, keys, free)?;
-    let counting = Counting::new(alloc)?;
-    Ok(profile_machine(&mut machine, limit, counting))
+    let mut counting = Counting::new(alloc)?;
+    let ended = Ended::observed(alloc, program, args, &mut counting)?;
+    // For the prover alone: each step that was seen is one of a machine.
+    counting.is_whole();
+    let machine = ended.machine();
+    let profile = counting.profile(machine.steps(), machine.cycles());
+    Ok((profile, ended.cause()))
 }

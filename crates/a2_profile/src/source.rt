@@ -1,21 +1,20 @@
 //! The profile of a source.
 
-ghost use Rattle.std.specs.Prelude.{◌≡◌, false, map};
-ghost use Rattle.a2_run.specs.Answers.{Answers, is_read_fault};
+ghost use Rattle.std.specs.Prelude.{◌≡◌, map};
 ghost use Rattle.a2_stream.specs.Stream.{SendsOrBreaks};
-ghost use Rattle.a2_profile.specs.Texts.{IsProfileOf, IsRoutineProfileOf, profile_text, routines_text};
+ghost use Rattle.a2_profile.specs.Texts.{IsFaultOf, IsProfileOf, IsRoutineProfileOf, ProfileAnswers, profile_text, routines_text};
 
 use crate::{
-    Profile, RoutineProfile, profile_routine_runs, profile_runs, write_callgrind, write_json,
+    Profile, RoutineProfile, Runs, profile_routine_runs, profile_runs, write_callgrind, write_json,
     write_profile, write_routine_callgrind, write_routine_json, write_routines,
 };
 use a2_asm::Program;
-use a2_bus::Keys;
 use a2_machine::Cause;
-use a2_run::{AssembledText, RunFault};
+use a2_run::AssembledText;
 use a2_stream::{Output, WriteFault};
 use a2_text::cut;
-use std::alloc::Allocator;
+use a2_timed_keys::TypedFault;
+use std::alloc::{AllocError, Allocator};
 
 /// The format of a profile.
 #[derive(Clone, Copy, Debug, PartialEq, Eq)]
@@ -28,15 +27,44 @@ pub enum Format {
     Callgrind,
 }
 
-/// The runs that a profile counts together.
+/// Why the profile of a source was not written.
 #[derive(Clone, Copy)]
-pub struct Runs<'a> {
-    /// The keys that wait at the start of each run. There is one run for each item.
-    pub keys: &'a [Keys],
-    /// The most steps of each run, 0 to 2^32 - 1.
-    pub limit: u32,
-    /// Runs without the guard of the program's code.
-    pub free: bool,
+pub enum ProfileFault {
+    /// One of the runs has no end, or there was not enough memory.
+    Run(TypedFault),
+    /// A write failed.
+    Write,
+}
+
+impl From<TypedFault> for ProfileFault {
+    ghost use Rattle.a2_profile.specs.declared.source.ProfileFault.TheVariants.{Run};
+
+    ghost from_gives = { λ fault e. e ≡ Run fault };
+
+    fn from(fault: TypedFault) -> ProfileFault {
+        ProfileFault::Run(fault)
+    }
+}
+
+impl From<AllocError> for ProfileFault {
+    ghost use Rattle.a2_profile.specs.declared.source.ProfileFault.TheVariants.{Run};
+    ghost use Rattle.a2_timed_keys.specs.declared.run.TypedFault.TheVariants.{Memory};
+
+    ghost from_gives = { λ _ e. e ≡ Run Memory };
+
+    fn from(_error: AllocError) -> ProfileFault {
+        ProfileFault::Run(TypedFault::Memory)
+    }
+}
+
+impl From<WriteFault> for ProfileFault {
+    ghost use Rattle.a2_profile.specs.declared.source.ProfileFault.TheVariants.{Write};
+
+    ghost from_gives = { λ _ e. e ≡ Write };
+
+    fn from(_fault: WriteFault) -> ProfileFault {
+        ProfileFault::Write
+    }
 }
 
 /// How a profile is written.
@@ -48,7 +76,7 @@ pub struct Style<'a> {
 }
 
 // Writes a profile in a format.
-fn put_profile<A: Allocator, B: Allocator, W: Output>(
+fn put_profile<A: Allocator + Copy, B: Allocator + Copy, W: Output>(
     format: Format,
     name: &[u8],
     program: &Program<B>,
@@ -68,7 +96,7 @@ fn put_profile<A: Allocator, B: Allocator, W: Output>(
 }
 
 // Writes a profile by routine in a format.
-fn put_routines<A: Allocator, B: Allocator, W: Output>(
+fn put_routines<A: Allocator + Copy, B: Allocator + Copy, W: Output>(
     format: Format,
     name: &[u8],
     program: &Program<B>,
@@ -88,22 +116,23 @@ fn put_routines<A: Allocator, B: Allocator, W: Output>(
 
 /// Runs a source once for each item of `runs.keys`, each time from the start, and writes its profile over all these runs in this
 /// style. Returns the causes of the ends, in the order of the runs; [`first_stop`](crate::first_stop) chooses one of them. Fails if
-/// a write fails, or if there is not enough memory. This project's profile.
+/// after some steps of a run more than 4,096 keys would wait, if a write fails, or if there is not enough memory. This project's
+/// profile.
 pub fn profile_source<A: Allocator + Copy, W: Output>(
     alloc: A,
     assembled: &AssembledText<'_, A>,
-    runs: Runs<'_>,
+    runs: Runs<'_, A>,
     style: Style<'_>,
     writer: &mut W,
-) -> Result<Vec<Cause, A>, RunFault>
-    ensures meaning { Answers (λ _. ⊥)
-        (λ causes. IsProfileOf style.entry.format style.entry.name.now assembled.now.text runs.entry.keys.now runs.entry.limit runs.entry.free causes.items)
+) -> Result<Vec<Cause, A>, ProfileFault>
+    ensures { ProfileAnswers (IsFaultOf assembled.now.text runs.entry.keys.now runs.entry.strokes.now runs.entry.limit runs.entry.free)
+        (λ causes. IsProfileOf style.entry.format style.entry.name.now assembled.now.text runs.entry.keys.now runs.entry.strokes.now
+        runs.entry.limit runs.entry.free causes.items)
         (W.taker writer.old) (W.taker writer.new) result }
-    ensures no_reader { is_read_fault result ≡ false }
 {
     let program = assembled.program();
     let texts = cut(alloc, assembled.text())?;
-    let (profile, causes) = profile_runs(alloc, program, runs.keys, runs.limit, runs.free)?;
+    let (profile, causes) = profile_runs(alloc, program, runs)?;
     let (lines, ends) = (texts.as_slice(), causes.as_slice());
     put_profile(
         style.format,
@@ -119,21 +148,21 @@ pub fn profile_source<A: Allocator + Copy, W: Output>(
 
 /// Runs a source once for each item of `runs.keys`, each time from the start, and writes its profile by routine over all these runs
 /// in this style. Returns the causes of the ends, in the order of the runs; [`first_stop`](crate::first_stop) chooses one of them.
-/// Fails if a write fails, or if there is not enough memory. This project's profile.
+/// Fails as [`profile_source`] does. This project's profile.
 pub fn profile_source_routines<A: Allocator + Copy, W: Output>(
     alloc: A,
     assembled: &AssembledText<'_, A>,
-    runs: Runs<'_>,
+    runs: Runs<'_, A>,
     style: Style<'_>,
     writer: &mut W,
-) -> Result<Vec<Cause, A>, RunFault>
-    ensures meaning { Answers (λ _. ⊥)
-        (λ causes. IsRoutineProfileOf style.entry.format style.entry.name.now assembled.now.text runs.entry.keys.now runs.entry.limit runs.entry.free causes.items)
+) -> Result<Vec<Cause, A>, ProfileFault>
+    ensures { ProfileAnswers (IsFaultOf assembled.now.text runs.entry.keys.now runs.entry.strokes.now runs.entry.limit runs.entry.free)
+        (λ causes. IsRoutineProfileOf style.entry.format style.entry.name.now assembled.now.text runs.entry.keys.now runs.entry.strokes.now
+        runs.entry.limit runs.entry.free causes.items)
         (W.taker writer.old) (W.taker writer.new) result }
-    ensures no_reader { is_read_fault result ≡ false }
 {
     let program = assembled.program();
-    let (profile, causes) = profile_routine_runs(alloc, program, runs.keys, runs.limit, runs.free)?;
+    let (profile, causes) = profile_routine_runs(alloc, program, runs)?;
     put_routines(
         style.format,
         style.name,

@@ -151,7 +151,7 @@ pub(crate) fn is_branch(statement: &Statement) -> bool
 }
 
 // Writes the row of a line.
-fn put_line<A: Allocator, W: Output>(
+fn put_line<A: Allocator + Copy, W: Output>(
     profile: &Profile<A>,
     statement: Option<Statement>,
     number: usize,
@@ -176,7 +176,7 @@ fn put_line<A: Allocator, W: Output>(
 }
 
 // Writes the rows of all lines.
-fn put_lines<A: Allocator, W: Output>(
+fn put_lines<A: Allocator + Copy, W: Output>(
     profile: &Profile<A>,
     statements: &[Statement],
     texts: &[&[u8]],
@@ -195,7 +195,7 @@ fn put_lines<A: Allocator, W: Output>(
 }
 
 // Returns whether steps began at an address where there is no instruction of the source.
-pub(crate) fn is_outside<A: Allocator, B: Allocator>(
+pub(crate) fn is_outside<A: Allocator + Copy, B: Allocator + Copy>(
     program: &Program<B>,
     profile: &Profile<A>,
     address: u16,
@@ -212,7 +212,7 @@ struct OutsideRows<'a, A: Allocator, B: Allocator> {
     profile: &'a Profile<A>,
 }
 
-impl<'a, A: Allocator, B: Allocator> ByAddress for OutsideRows<'a, A, B> {
+impl<'a, A: Allocator + Copy, B: Allocator + Copy> ByAddress for OutsideRows<'a, A, B> {
     ghost text = { λ rows address. table.outside_row rows.program.now.statements rows.profile.now address };
 
     fn put<W: Output>(&self, address: u16, writer: &mut W) -> Result<(), WriteFault> {
@@ -241,14 +241,17 @@ fn line_of<'a>(texts: &[&'a [u8]], statement: &Statement) -> &'a [u8]
 }
 
 // Returns whether a statement is an instruction that was never executed.
-pub(crate) fn is_never_done<A: Allocator>(profile: &Profile<A>, statement: &Statement) -> bool
+pub(crate) fn is_never_done<A: Allocator + Copy>(
+    profile: &Profile<A>,
+    statement: &Statement,
+) -> bool
     ensures { result ≡ table.is_never_done profile.now statement.now }
 {
     statement.instr.is_some() && profile.at(statement.addr).times == 0
 }
 
 // Writes the row of a statement, if it is an instruction that was never executed.
-fn put_never<A: Allocator, W: Output>(
+fn put_never<A: Allocator + Copy, W: Output>(
     profile: &Profile<A>,
     texts: &[&[u8]],
     statement: &Statement,
@@ -267,7 +270,7 @@ fn put_never<A: Allocator, W: Output>(
 }
 
 // Writes the rows of the lines that were never executed.
-fn put_never_rows<A: Allocator, W: Output>(
+fn put_never_rows<A: Allocator + Copy, W: Output>(
     profile: &Profile<A>,
     texts: &[&[u8]],
     statements: &[Statement],
@@ -323,7 +326,7 @@ fn put_heading<W: Output>(writer: &mut W) -> Result<(), WriteFault>
 /// # Errors
 ///
 /// `WriteFault` if a write failed: no further write follows, and a front of the table was written.
-pub fn write_profile<A: Allocator, B: Allocator, W: Output>(
+pub fn write_profile<A: Allocator + Copy, B: Allocator + Copy, W: Output>(
     program: &Program<B>,
     texts: &[&[u8]],
     profile: &Profile<A>,

@@ -76,14 +76,14 @@ const CLOSED: Opening = Opening {
 };
 
 /// No steps of any routine.
-pub(crate) fn no_totals<A: Allocator>(alloc: A) -> Result<Vec<Totals, A>, AllocError>
+pub(crate) fn no_totals<A: Allocator + Copy>(alloc: A) -> Result<Vec<Totals, A>, AllocError>
     ensures { IfOk result (λ totals. totals.items ≡ replicate 65537 nothing) }
 {
     vec![in alloc; NOTHING; ROUTINES]
 }
 
 // No routine is entered.
-fn no_openings<A: Allocator>(alloc: A) -> Result<Vec<Opening, A>, AllocError>
+fn no_openings<A: Allocator + Copy>(alloc: A) -> Result<Vec<Opening, A>, AllocError>
     ensures { IfOk result (λ openings. openings.items ≡ replicate 65537 walks.closed) }
 {
     vec![in alloc; CLOSED; ROUTINES]
@@ -157,7 +157,7 @@ impl<A: Allocator + Copy> Walk<A> {
     }
 }
 
-impl<A: Allocator> Walk<A> {
+impl<A: Allocator + Copy> Walk<A> {
     /// For the prover alone: a law of every walk.
     #[inline(always)]
     pub fn is_walk(&self)
@@ -326,7 +326,7 @@ fn keeps_small(pc: u16, s: u8, next_pc: u16, next_s: u8, cycles: u32)
     let _ = (pc, s, next_pc, next_s, cycles);
 }
 
-impl<A: Allocator> Observer for Walk<A> {
+impl<A: Allocator + Copy> Observer for Walk<A> {
     ghost seen = { walks.shown_to };
 
     #[inline(always)]
@@ -362,7 +362,7 @@ impl<A: Allocator> Model for RoutineProfile<A> {
     ghost invariant = { λ p. AreSummed p.totals.items p.steps p.cycles };
 }
 
-impl<A: Allocator> RoutineProfile<A> {
+impl<A: Allocator + Copy> RoutineProfile<A> {
     /// Returns what was executed in the routine that begins at `address`, $0000 to $FFFF.
     pub fn at(&self, address: u16) -> Totals
         ensures value { result ≡ totals_at self.now address }

@@ -1,34 +1,22 @@
 -- The routines of a run that is drawn, one step after another.
-use Rattle.std.specs.Prelude.{◌≡◌, ℕ, zero, suc, ◌+◌, ◌-◌, ◌<◌, ◌≤◌, nat_lt, Bool, true, false, List, [], ◌∷◌, ◌++◌, map, filter, length, drop, Option, Some, None, IsErr, IfOk, Result, Ok, Err, refl, if◌then◌else◌}
-use Rattle.std.specs.List.{All}
+use Rattle.std.specs.Prelude.{◌≡◌, ℕ, zero, suc, ◌+◌, ◌-◌, ◌<◌, ◌≤◌, nat_lt, Bool, true, false, List, [], ◌∷◌, ◌++◌, map, filter, length, drop, Option, Some, None, Result, refl, if◌then◌else◌}
 use Rattle.std.proofs.Common.{sym, ap, ap₂, ◌∙◌, subst, arith, append_assoc, get_or}
 use Rattle.std.proofs.lemmas.Bool.{ltb-true}
 use Rattle.std.proofs.lemmas.List.{append-nil, drop_more, length-map}
-use Rattle.std.proofs.lemmas.List.Elements.{All-push}
 use Rattle.a2_stream.specs.Stream.{Taker, Sends, Breaks, SendsOrBreaks}
-use Rattle.a2_stream.specs.declared.WriteFault.{WriteFault}
-use Rattle.a2_stream.proofs.Joined.{Sends-then, Breaks-then, Breaks-more}
+use Rattle.a2_stream.proofs.Joined.{Sends-then, Breaks-more, went_on}
 use Rattle.a2_services.specs.World.{World}
 use Rattle.a2_asm.specs.Assembled.{Assembled}
-use Rattle.a2_machine.specs.declared.causes.Cause.{Cause}
-use Rattle.a2_machine.specs.ByteRun.{bytes}
-use Rattle.a2_machine.specs.Meaning.{Code, IsEnd, stuck, world_at}
+use Rattle.a2_machine.specs.Meaning.{End}
 use Rattle.a2_machine.specs.Output.{cause_line}
-use Rattle.a2_machine.specs.State.{Device, MachineState, world_of_state, code_of, cause_of, most_steps, IsStep}
-use Rattle.a2_machine.proofs.RunFrom.{run_from}
-use Rattle.a2_machine.proofs.Runs.{run-is_end}
-use Rattle.a2_run.specs.Meaning.{IsProgramOf, code_of_run, start_of_run}
-use Rattle.a2_run.specs.Started.{IsStarted, guard_of_run}
-use Rattle.a2_run.proofs.Runs.{meant, sound-of}
+use Rattle.a2_machine.specs.State.{MachineState, world_of_state}
 use Rattle.a2_symbols.specs.declared.routines.Entry.{Entry}
 use Rattle.a2_symbols.specs.Routines.{is_call, entry_at, with_call, entered}
 use Rattle.a2_symbols.specs.Routines as routines
-use Rattle.a2_profile.proofs.Going.{EndAlike, end-late, same-world}
-use Rattle.a2_trace.proofs.Going.{IsGone, gone-none, gone-next, step-reached, ended_at}
-use Rattle.a2_profile.proofs.Walking.{map-filter, map-push, entered-before, entered-alike, map-alike}
+use Rattle.a2_profile.proofs.Walking.{map-filter, map-push}
 use Rattle.a2_trace.specs.declared.calls.Visit.{Visit}
-use Rattle.a2_trace.specs.Calls.{visit_of, entered_row, spent_row, is_within, word_of, left_rows, visits, visits_called, call_row, back_rows, call_rows, call_tree, IsCallTreeOf}
-use Rattle.a2_trace.specs.Called.{begun, IsTree, Draws}
+use Rattle.a2_trace.specs.Calls.{visit_of, entered_row, spent_row, is_within, word_of, left_rows, visits, visits_called, call_row, back_rows, call_rows, call_tree}
+use Rattle.a2_trace.specs.Called.{begun}
 
 -- The rows of the routines that are left
 
@@ -105,230 +93,114 @@ above-filter s (v ∷ vs) = filtered-above s (nat_lt s v.s) v (filter (λ v. nat
 
 -- Steps
 
--- n steps are executed, and their rows were written
-pub record IsDrawn (program : Assembled) (code : Code) (start : World) (a b : Taker) (d : Device) (n : ℕ) (items : List Visit) : Type 0 where
-  pub gone : IsGone code start d n
-  pub items_are : items ≡ visits (world_at code start) n
-  pub falls : Falls 256 items
-  pub above : Above d.state.regs.s items
-  pub sent : Sends a b (call_rows program (world_at code start) n)
-
 visit-is : (v w : Visit) → v.caller ≡ w.caller → v.begin ≡ w.begin → v.s ≡ w.s → v.steps ≡ w.steps → v.cycles ≡ w.cycles → v ≡ w
 visit-is v w e f g h k = λ i. record { caller = e i; begin = f i; s = g i; steps = h i; cycles = k i }
 
-pub drawn-none : (program : Assembled) (d : Device) (a : Taker) (items : List Visit) → items ≡ [] → d.state.steps ≡ 0 → Sends a a []
-    → IsDrawn program (code_of d.state) (world_of_state d.state) a a d 0 items
-unfolding entered call_rows
-drawn-none program d a items e steps sent = record {
-  gone = gone-none d steps;
-  items_are = e;
-  falls = subst (Falls 256) (sym e) nothing;
-  above = subst (Above d.state.regs.s) (sym e) nothing;
-  sent = sent;
-}
-  where
-    nothing : Unit {0}
-    nothing = tt
+module _ (program : Assembled) (worlds : ℕ → World) where
+  -- n steps are executed, and their rows were written
+  pub record IsDrawn (a b : Taker) (n : ℕ) (items : List Visit) : Type 0 where
+    pub items_are : items ≡ visits worlds n
+    pub falls : Falls 256 items
+    pub above : Above (worlds n).registers.s items
+    pub sent : Sends a b (call_rows program worlds n)
 
-module _ (program : Assembled) (code : Code) (start : World) (a b : Taker) (old new : Device) (n : ℕ) (items : List Visit)
-    (h : IsDrawn program code start a b old n items) (step : IsStep old new) (calls : Bool) (caller s : ℕ)
-    (is_calls : calls ≡ is_call (world_of_state old.state)) (is_caller : caller ≡ old.state.regs.pc) (is_s : s ≡ old.state.regs.s) where
-  abbrev worlds : ℕ → World
-  worlds = world_at code start
+  pub drawn-none : (a : Taker) (n : ℕ) (items : List Visit) → items ≡ [] → n ≡ 0 → Sends a a [] → IsDrawn a a n items
+  unfolding entered call_rows
+  drawn-none a n items e start sent =
+      subst (λ (m : ℕ). IsDrawn a a m items) (sym start) (subst (λ (l : List Visit). IsDrawn a a 0 l) (sym e) (record {
+        items_are = refl;
+        falls = tt;
+        above = tt;
+        sent = sent;
+      }))
 
-  abbrev now : Visit
-  now = begun caller s new.state
+  -- the next step led to the state `new`
+  module _ (a b : Taker) (n : ℕ) (items : List Visit) (h : IsDrawn a b n items) (new : MachineState) (reached : world_of_state new ≡ worlds (suc n))
+      (steps : new.steps ≡ suc n) (calls : Bool) (caller s : ℕ) (is_calls : calls ≡ is_call (worlds n)) (is_caller : caller ≡ (worlds n).registers.pc)
+      (is_s : s ≡ (worlds n).registers.s) where
+    abbrev now : Visit
+    now = begun caller s new
 
-  abbrev mid : List Visit
-  mid = if calls then items ++ now ∷ [] else items
+    abbrev mid : List Visit
+    mid = if calls then items ++ now ∷ [] else items
 
-  one : suc n ≡ n + 1
-  one = omega arith
+    now-is : now ≡ visit_of worlds (entry_at n (worlds n))
+    now-is =
+        visit-is now (visit_of worlds (entry_at n (worlds n))) is_caller (ap (λ (w : World). w.registers.pc) reached) is_s steps
+        (ap (λ (w : World). w.cycles) reached)
 
-  reached : world_of_state new.state ≡ worlds (suc n)
-  reached = step-reached code start old new n h.gone step
+    mid-is : mid ≡ visits_called worlds n
+    mid-is =
+        ap₂ (λ (b : Bool) (v : Visit). if b then items ++ v ∷ [] else items) is_calls now-is
+        ∙ ap (λ (l : List Visit). if is_call (worlds n) then l ++ visit_of worlds (entry_at n (worlds n)) ∷ [] else l) h.items_are
+        ∙ go (is_call (worlds n))
+      where
+        go : (b : Bool) → (if b then visits worlds n ++ visit_of worlds (entry_at n (worlds n)) ∷ [] else visits worlds n)
+            ≡ map (visit_of worlds) (if b then entered worlds n ++ entry_at n (worlds n) ∷ [] else entered worlds n)
+        go true = sym (map-push (visit_of worlds) (entered worlds n) (entry_at n (worlds n)))
+        go false = refl
 
-  now-is : now ≡ visit_of worlds (entry_at n (worlds n))
-  now-is =
-      visit-is now (visit_of worlds (entry_at n (worlds n))) (is_caller ∙ ap (λ (w : World). w.registers.pc) h.gone.world)
-      (ap (λ (w : World). w.registers.pc) reached) (is_s ∙ ap (λ (w : World). w.registers.s) h.gone.world)
-      (omega (arith, h.gone.steps, step.steps)) (ap (λ (w : World). w.cycles) reached)
+    -- the rows of the step
+    pub rows-next : (piece : List ℕ)
+        → piece ≡ (if calls then entered_row program (length items) now else []) ++ left_rows (Some new.regs.s) program new.steps new.cycles 0 mid
+        → call_rows program worlds n ++ piece ≡ call_rows program worlds (suc n)
+    unfolding call_rows
+    rows-next piece is =
+        ap (λ (l : List ℕ). call_rows program worlds n ++ l)
+        (is ∙ ap₂ (λ (x y : List ℕ). x ++ y)
+        (ap₂ (λ (b : Bool) (v : Visit). if b then entered_row program (length items) v else []) is_calls now-is
+        ∙ ap (λ (k : ℕ). if is_call (worlds n) then entered_row program k (visit_of worlds (entry_at n (worlds n))) else [])
+        (ap length h.items_are ∙ length-map (entered worlds n) (visit_of worlds)))
+        (ap₂ (λ (k : ℕ) (l : List Visit). left_rows (Some new.regs.s) program k new.cycles 0 l) steps mid-is
+        ∙ ap (λ (w : World). left_rows (Some w.registers.s) program (suc n) w.cycles 0 (visits_called worlds n)) reached))
 
-  calls-is : calls ≡ is_call (worlds n)
-  calls-is = is_calls ∙ ap is_call h.gone.world
+    falls-mid : s < 256 → Falls 256 mid
+    falls-mid low = go calls
+      where
+        go : (b : Bool) → Falls 256 (if b then items ++ now ∷ [] else items)
+        go true = falls-push 256 items now h.falls (subst (λ (k : ℕ). Above k items) (sym is_s) h.above) low
+        go false = h.falls
 
-  mid-is : mid ≡ visits_called worlds n
-  mid-is =
-      ap₂ (λ (b : Bool) (v : Visit). if b then items ++ v ∷ [] else items) calls-is now-is
-      ∙ ap (λ (l : List Visit). if is_call (worlds n) then l ++ visit_of worlds (entry_at n (worlds n)) ∷ [] else l) h.items_are
-      ∙ go (is_call (worlds n))
-    where
-      go : (b : Bool) → (if b then visits worlds n ++ visit_of worlds (entry_at n (worlds n)) ∷ [] else visits worlds n)
-          ≡ map (visit_of worlds) (if b then entered worlds n ++ entry_at n (worlds n) ∷ [] else entered worlds n)
-      go true = sym (map-push (visit_of worlds) (entered worlds n) (entry_at n (worlds n)))
-      go false = refl
-
-  -- the rows of the step
-  pub rows-next : (piece : List ℕ)
-      → piece ≡ (if calls then entered_row program (length items) now else []) ++ left_rows (Some new.state.regs.s) program new.state.steps new.state.cycles 0 mid
-      → call_rows program worlds n ++ piece ≡ call_rows program worlds (n + 1)
-  unfolding call_rows
-  rows-next piece is =
-      ap (λ (l : List ℕ). call_rows program worlds n ++ l)
-      (is ∙ ap₂ (λ (x y : List ℕ). x ++ y)
-      (ap₂ (λ (b : Bool) (v : Visit). if b then entered_row program (length items) v else []) calls-is now-is
-      ∙ ap (λ (k : ℕ). if is_call (worlds n) then entered_row program k (visit_of worlds (entry_at n (worlds n))) else [])
-      (ap length h.items_are ∙ length-map (entered worlds n) (visit_of worlds)))
-      (ap (λ (l : List Visit). left_rows (Some new.state.regs.s) program new.state.steps new.state.cycles 0 l) mid-is
-      ∙ ap (λ (k : ℕ). left_rows (Some new.state.regs.s) program k new.state.cycles 0 (visits_called worlds n)) (omega (arith, h.gone.steps, step.steps))
-      ∙ ap (λ (w : World). left_rows (Some w.registers.s) program (suc n) w.cycles 0 (visits_called worlds n)) reached))
-      ∙ ap (call_rows program worlds) one
-
-  falls-mid : s < 256 → Falls 256 mid
-  falls-mid low = go calls
-    where
-      go : (b : Bool) → Falls 256 (if b then items ++ now ∷ [] else items)
-      go true = falls-push 256 items now h.falls (subst (λ (k : ℕ). Above k items) (sym is_s) h.above) low
-      go false = h.falls
-
-  pub drawn-next : (c : Taker) (left : List Visit) (piece : List ℕ) → n < most_steps → None ≡ cause_of old.state → s < 256
-      → left ≡ filter (λ v. nat_lt new.state.regs.s v.s) mid
-      → piece ≡ (if calls then entered_row program (length items) now else []) ++ left_rows (Some new.state.regs.s) program new.state.steps new.state.cycles 0 mid
-      → Sends b c piece → IsDrawn program code start a c new (n + 1) left
-  unfolding entered
-  drawn-next c left piece low free few_s is_left is_piece sent = record {
-    gone = gone-next code start old new n h.gone step low free;
-    items_are = is_left ∙ ap (filter (λ v. nat_lt new.state.regs.s v.s)) mid-is
-        ∙ map-filter (visit_of worlds) (routines.is_within (worlds (suc n))) (λ v. nat_lt new.state.regs.s v.s) alike (with_call n (worlds n) (entered worlds n))
-        ∙ ap (visits worlds) one;
-    falls = subst (Falls 256) (sym is_left) (falls-filter (λ v. nat_lt new.state.regs.s v.s) 256 mid (falls-mid few_s));
-    above = subst (Above new.state.regs.s) (sym is_left) (above-filter new.state.regs.s mid);
-    sent = subst (Sends a c) (rows-next piece is_piece) (Sends-then a b c _ _ h.sent sent);
-  }
-    where
-      alike : (e : Entry) → nat_lt new.state.regs.s e.s ≡ routines.is_within (worlds (suc n)) e
-      alike e = ap (λ (w : World). nat_lt w.registers.s e.s) reached
-
--- The end of the run
-
-pub draws-end : (program : Assembled) (code : Code) (start : World) (a b c : Taker) (d last : Device) (n limit : ℕ) (items : List Visit) (cause : Cause)
-    (r : Result Cause WriteFault) → IsDrawn program code start a b d n items → IsEnd code start limit (ended_at d n cause) → last ≡ d
-    → SendsOrBreaks b c r (left_rows None program last.state.steps last.state.cycles 0 items ++ cause_line cause) → IfOk r (λ told. told ≡ cause)
-    → Draws program code start limit a c r
-draws-end program code start a b c d last n limit items cause r h is kept sent same =
-    go r (subst (λ (e : Device). SendsOrBreaks b c r (left_rows None program e.state.steps e.state.cycles 0 items ++ cause_line cause)) kept sent) same
-  where
-    worlds : ℕ → World
-    worlds = world_at code start
-
-    rest : left_rows None program d.state.steps d.state.cycles 0 items ≡ left_rows None program n d.state.cycles 0 (visits worlds n)
-    rest = ap₂ (λ (k : ℕ) (l : List Visit). left_rows None program k d.state.cycles 0 l) h.gone.steps h.items_are
-
-    tree : call_rows program worlds n ++ (left_rows None program d.state.steps d.state.cycles 0 items ++ cause_line cause) ≡ call_tree program worlds (ended_at d n cause)
-    tree = ap (λ (l : List ℕ). call_rows program worlds n ++ (l ++ cause_line cause)) rest
-
-    go : (r : Result Cause WriteFault) → SendsOrBreaks b c r (left_rows None program d.state.steps d.state.cycles 0 items ++ cause_line cause)
-        → IfOk r (λ told. told ≡ cause) → Draws program code start limit a c r
-    go (Ok told) sent same = (
-      call_tree program worlds (ended_at d n cause),
-      record { end = ended_at d n cause; is_end = is; cause_is = same; output_is = refl },
-      subst (Sends a c) tree (Sends-then a b c _ _ h.sent sent),
-    )
-    go (Err _) broke same = (
-      cause,
-      call_tree program worlds (ended_at d n cause),
-      record { end = ended_at d n cause; is_end = is; cause_is = refl; output_is = refl },
-      subst (Breaks a c) tree (Breaks-then a b c _ _ h.sent broke),
-    )
-
--- The rows of more steps begin with those of fewer
-rows-more : (program : Assembled) (worlds : ℕ → World) (n more : ℕ) → (rest : List ℕ) × (call_rows program worlds (n + more) ≡ call_rows program worlds n ++ rest)
-unfolding call_rows
-rows-more program worlds n zero =
-    let e : n + zero ≡ n = omega arith in
-    ([], ap (call_rows program worlds) e ∙ sym (append-nil (call_rows program worlds n)))
-rows-more program worlds n (suc more) =
-    let e : n + suc more ≡ suc (n + more) = omega arith in
-    let (rest, is) = rows-more program worlds n more in
-    let line = call_row program worlds (n + more) ++ back_rows program worlds (n + more) in
-    (rest ++ line, ap (call_rows program worlds) e ∙ ap (λ (l : List ℕ). l ++ line) is ∙ append_assoc (call_rows program worlds n) rest line)
-
-pub draws-broken : (program : Assembled) (code : Code) (start : World) (a c : Taker) (n limit : ℕ) (r : Result Cause WriteFault) → IsErr r
-    → ((k : ℕ) → k < n → stuck code (world_at code start k) ≡ None) → n ≤ limit → Breaks a c (call_rows program (world_at code start) n)
-    → Draws program code start limit a c r
-draws-broken program code start a c n limit (Ok _) failed going within broke = cc
-draws-broken program code start a c n limit (Err _) failed going within broke =
-    let worlds = world_at code start in
-    let end = run_from code start 0 limit in
-    let is = run-is_end code start limit in
-    let late : n ≤ end.steps = end-late code start limit n end is going within in
-    let (rest, same) = rows-more program worlds n (end.steps - n) in
-    let all : n + (end.steps - n) ≡ end.steps = omega (arith, late) in
-    let lines : call_rows program worlds n ++ rest ≡ call_rows program worlds end.steps = sym same ∙ ap (call_rows program worlds) all in
-    let last = left_rows None program end.steps end.world.cycles 0 (visits worlds end.steps) ++ cause_line end.cause in (
-      end.cause,
-      call_tree program worlds end,
-      record { end = end; is_end = is; cause_is = refl; output_is = refl },
-      subst (λ (l : List ℕ). Breaks a c (l ++ last)) lines
-          (Breaks-more a c (call_rows program worlds n ++ rest) last (Breaks-more a c (call_rows program worlds n) rest broke)),
-    )
-
--- The tree of the text's run
-
-module _ (v w : ℕ → World) where
-  visit-alike : (n : ℕ) → ((k : ℕ) → k ≤ n → v k ≡ w k) → (e : Entry) → e.position < n → visit_of v e ≡ visit_of w e
-  visit-alike n alike e low =
-      ap (λ (x : World). record { caller = e.call; begin = x.registers.pc; s = e.s; steps = suc e.position; cycles = x.cycles }) (alike (suc e.position) (omega (arith, low)))
-
-  visits-alike : (n : ℕ) → ((k : ℕ) → k ≤ n → v k ≡ w k) → visits v n ≡ visits w n
-  visits-alike n alike =
-      map-alike (visit_of v) (visit_of w) (λ (e : Entry). e.position < n) (visit-alike n alike) (entered v n) (entered-before v n)
-      ∙ ap (map (visit_of w)) (entered-alike v w n alike)
-
-  called-before : (n : ℕ) → All (λ (e : Entry). e.position < suc n) (with_call n (v n) (entered v n))
-  called-before n = go (is_call (v n)) (λ k d low. omega (arith, entered-before v n k d low))
-    where
-      go : (b : Bool) → All (λ (e : Entry). e.position < suc n) (entered v n) → All (λ (e : Entry). e.position < suc n) (if b then entered v n ++ entry_at n (v n) ∷ [] else entered v n)
-      go true earlier = All-push (λ (e : Entry). e.position < suc n) (entered v n) (entry_at n (v n)) earlier (omega arith)
-      go false earlier = earlier
-
-  below : (n : ℕ) → ((k : ℕ) → k ≤ suc n → v k ≡ w k) → (k : ℕ) → k ≤ n → v k ≡ w k
-  below n alike k le = alike k (omega (arith, le))
-
-  called-alike : (n : ℕ) → ((k : ℕ) → k ≤ suc n → v k ≡ w k) → visits_called v n ≡ visits_called w n
-  called-alike n alike =
-      map-alike (visit_of v) (visit_of w) (λ (e : Entry). e.position < suc n) (visit-alike (suc n) alike) (with_call n (v n) (entered v n)) (called-before n)
-      ∙ ap₂ (λ (x : World) (es : List Entry). map (visit_of w) (with_call n x es)) (alike n (omega arith)) (entered-alike v w n (below n alike))
-
-  rows-alike : (program : Assembled) (n : ℕ) → ((k : ℕ) → k ≤ n → v k ≡ w k) → call_rows program v n ≡ call_rows program w n
-  unfolding call_rows
-  rows-alike program zero alike = refl
-  rows-alike program (suc n) alike =
-      ap₂ (λ (x y : List ℕ). x ++ y) (rows-alike program n (below n alike)) (ap₂ (λ (x y : List ℕ). x ++ y)
-      (ap₂ (λ (x : World) (es : List Entry). if is_call x then entered_row program (length es) (visit_of v (entry_at n x)) else []) (alike n (omega arith)) (entered-alike v w n (below n alike))
-      ∙ ap (λ (visit : Visit). if is_call (w n) then entered_row program (length (entered w n)) visit else []) (visit-alike (suc n) alike (entry_at n (w n)) (omega arith)))
-      (ap₂ (λ (x : World) (l : List Visit). left_rows (Some x.registers.s) program (suc n) x.cycles 0 l) (alike (suc n) (omega arith)) (called-alike n alike)))
-
-pub tree-of : (text keys : List ℕ) (limit : ℕ) (free : Bool) (program : Assembled) (state : MachineState) → IsProgramOf text program → IsStarted free program keys state
-    → (cause : Cause) (output : List ℕ) → IsTree program (code_of state) (world_of_state state) limit cause output → IsCallTreeOf text keys limit free cause output
-tree-of text keys limit free program state made started cause output is =
-    let guarded = bytes (guard_of_run free program) in
-    let code = code_of_run free program in
-    let start = start_of_run program keys in
-    let alike : EndAlike guarded code start = λ most end ends. meant free program keys most end (sound-of text program made) ends in
-    let told : IsTree program guarded start limit cause output
-    = subst (λ (k : Code). IsTree program k start limit cause output) (ap bytes started.guard)
-    (subst (λ (w : World). IsTree program (code_of state) w limit cause output) started.world is) in
-    let same : (k : ℕ) → k ≤ told.end.steps → world_at guarded start k ≡ world_at code start k
-    = λ k le. same-world guarded code start k alike (λ j lt. told.is_end.first j (omega (arith, lt, le))) in
-    record {
-      program = program;
-      is_program = made;
-      end = told.end;
-      is_end = alike limit told.end told.is_end;
-      cause_is = told.cause_is;
-      output_is = told.output_is
-          ∙ ap₂ (λ (x : List ℕ) (l : List Visit). x ++ (left_rows None program told.end.steps told.end.world.cycles 0 l ++ cause_line told.end.cause))
-          (rows-alike (world_at guarded start) (world_at code start) program told.end.steps same)
-          (visits-alike (world_at guarded start) (world_at code start) told.end.steps same);
+    pub drawn-next : (c : Taker) (left : List Visit) (piece : List ℕ) → s < 256 → left ≡ filter (λ v. nat_lt new.regs.s v.s) mid
+        → piece ≡ (if calls then entered_row program (length items) now else []) ++ left_rows (Some new.regs.s) program new.steps new.cycles 0 mid
+        → Sends b c piece → IsDrawn a c (suc n) left
+    unfolding entered
+    drawn-next c left piece low is_left is_piece sent = record {
+      items_are = is_left ∙ ap (filter (λ v. nat_lt new.regs.s v.s)) mid-is
+          ∙ map-filter (visit_of worlds) (routines.is_within (worlds (suc n))) (λ v. nat_lt new.regs.s v.s) alike (with_call n (worlds n) (entered worlds n));
+      falls = subst (Falls 256) (sym is_left) (falls-filter (λ v. nat_lt new.regs.s v.s) 256 mid (falls-mid low));
+      above = subst (λ (w : World). Above w.registers.s left) reached (subst (Above new.regs.s) (sym is_left) (above-filter new.regs.s mid));
+      sent = subst (Sends a c) (rows-next piece is_piece) (Sends-then a b c _ _ h.sent sent);
     }
+      where
+        alike : (e : Entry) → nat_lt new.regs.s e.s ≡ routines.is_within (worlds (suc n)) e
+        alike e = ap (λ (w : World). nat_lt w.registers.s e.s) reached
+
+  -- The end of the run
+
+  pub drawn-end : {T E : Type 0} → (a b c : Taker) (n : ℕ) (items : List Visit) (end : End) (r : Result T E) → IsDrawn a b n items → end.steps ≡ n
+      → SendsOrBreaks b c r (left_rows None program end.steps end.world.cycles 0 items ++ cause_line end.cause)
+      → SendsOrBreaks a c r (call_tree program worlds end)
+  drawn-end a b c n items end r h all last =
+      went_on a b c r (call_rows program worlds end.steps) _ (subst (λ (k : ℕ). Sends a b (call_rows program worlds k)) (sym all) h.sent)
+      (subst (λ (l : List Visit). SendsOrBreaks b c r (left_rows None program end.steps end.world.cycles 0 l ++ cause_line end.cause))
+      (h.items_are ∙ ap (visits worlds) (sym all)) last)
+
+  -- the rows of more steps begin with those of fewer
+  rows-more : (n more : ℕ) → (rest : List ℕ) × (call_rows program worlds (n + more) ≡ call_rows program worlds n ++ rest)
+  unfolding call_rows
+  rows-more n zero =
+      let e : n + zero ≡ n = omega arith in
+      ([], ap (call_rows program worlds) e ∙ sym (append-nil (call_rows program worlds n)))
+  rows-more n (suc more) =
+      let e : n + suc more ≡ suc (n + more) = omega arith in
+      let (rest, is) = rows-more n more in
+      let line = call_row program worlds (n + more) ++ back_rows program worlds (n + more) in
+      (rest ++ line, ap (call_rows program worlds) e ∙ ap (λ (l : List ℕ). l ++ line) is ∙ append_assoc (call_rows program worlds n) rest line)
+
+  pub drawn-broken : (a c : Taker) (n : ℕ) (end : End) → n ≤ end.steps → Breaks a c (call_rows program worlds n) → Breaks a c (call_tree program worlds end)
+  drawn-broken a c n end le broke =
+      let (rest, same) = rows-more n (end.steps - n) in
+      let all : n + (end.steps - n) ≡ end.steps = omega (arith, le) in
+      Breaks-more a c (call_rows program worlds end.steps) _
+      (subst (Breaks a c) (sym same ∙ ap (call_rows program worlds) all) (Breaks-more a c (call_rows program worlds n) rest broke))

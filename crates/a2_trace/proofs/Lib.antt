@@ -1,5 +1,4 @@
 pub mod Drawing
-pub mod Going
 mod Pairs
 pub mod Storing
 pub mod Tracing

@@ -1,6 +1,6 @@
 -- What the calls for a step say about its stores.
-use Rattle.std.specs.Prelude.{◌||◌, Result, Ok, Err}
-use Rattle.std.proofs.Common.{◌≡◌, ℕ, zero, suc, ◌+◌, ◌-◌, ◌<◌, Bool, true, false, length, slice_get, Option, Some, None, is_some, refl, sym, ap, subst, ◌∙◌, true≢false, arith}
+use Rattle.std.specs.Prelude.{◌||◌}
+use Rattle.std.proofs.Common.{◌≡◌, ℕ, zero, suc, ◌+◌, ◌-◌, ◌<◌, Bool, true, false, length, slice_get, Option, Some, None, is_some, refl, sym, ap, ap₂, ◌∙◌, true≢false, arith}
 use Rattle.std.specs.List.{list_any}
 use Rattle.a2_opcode.specs.Encoding.{Fetched, no_byte, undocumented, instruction, fetched}
 use Rattle.a2_bus.specs.BusState.{BusState, board_access}
@@ -14,10 +14,7 @@ use Rattle.a2_symbols.specs.declared.places.Span.{Span}
 use Rattle.a2_services.specs.declared.rows.Service.{Service}
 use Rattle.a2_services.specs.Services.{service_at}
 use Rattle.a2_services.specs.World.{World, world_of}
-use Rattle.a2_machine.specs.declared.causes.Cause.{Cause}
-use Rattle.a2_machine.specs.State.{Device}
 use Rattle.a2_machine.proofs.Outcomes.{stores-world, fetched-world}
-use Rattle.a2_trace.specs.Traced.{MakesStep}
 use Rattle.a2_trace.specs.Choices.{is_in, is_other_at, differ_from, stores_in}
 
 -- an instruction stores at the same addresses on a board as in the world
@@ -54,6 +51,12 @@ module _ (span : Span) (before after : World) where
       go None is = absurd (true≢false (sym is))
       go (Some service) is = refl
 
+  -- memories that are those of the worlds
+  pub stores-called : (old new : Memory) → old ≡ before.memory → new ≡ after.memory → is_some (service_at before.registers.pc) ≡ true
+      → differ_from old new span.first (span.last + 1 - span.first) ≡ stores_in span before after
+  stores-called old new e f some =
+      ap₂ (λ (m n : Memory). differ_from m n span.first (span.last + 1 - span.first)) e f ∙ sym (stores-by_call some)
+
   pub stores-by_instruction : is_some (service_at before.registers.pc) ≡ false → stores_in span before after ≡ by_instruction
   unfolding stores_in
   stores-by_instruction none = go (service_at before.registers.pc) none
@@ -74,15 +77,3 @@ differ_next old new a (suc left) some =
 pub differ_none : (old new : Memory) (a left : ℕ) → left ≡ 0 → differ_from old new a left ≡ false
 unfolding differ_from
 differ_none old new a left none = ap (differ_from old new a) none
-
--- a step that is not near, and one that is
-pub makes-far : (near : Bool) (stores : Option Span) (old new : Device) (r : Result Bool Cause) → near ≡ false → MakesStep false None old new r → MakesStep near stores old new r
-makes-far near stores old new r e h = subst (λ (b : Bool). MakesStep b stores old new r) (sym e) (go r h)
-  where
-    go : (r : Result Bool Cause) → MakesStep false None old new r → MakesStep false stores old new r
-    go (Ok chosen) h = h
-    go (Err cause) h = h
-
-pub makes-near : (near : Bool) (stores asked : Option Span) (old new : Device) (r : Result Bool Cause) → near ≡ true → stores ≡ asked → MakesStep true asked old new r → MakesStep near stores old new r
-makes-near near stores asked old new r e f h =
-    subst (λ (b : Bool). MakesStep b stores old new r) (sym e) (subst (λ (o : Option Span). MakesStep true o old new r) (sym f) h)

@@ -12,10 +12,10 @@ use Rattle.a2_services.specs.declared.rows.Service.{Service}
 use Rattle.a2_services.specs.Rows.{service_name}
 use Rattle.a2_services.specs.Services.{service_at}
 use Rattle.a2_services.specs.World.{World}
-use Rattle.a2_machine.specs.declared.causes.Cause.{Cause}
-use Rattle.a2_machine.specs.Meaning.{End, IsEnd, world_at}
+use Rattle.a2_machine.specs.Meaning.{End}
 use Rattle.a2_machine.specs.Output.{cause_line}
-use Rattle.a2_run.specs.Meaning.{IsProgramOf, code_of_run, start_of_run}
+use Rattle.a2_timed_keys.specs.Finished.{Finished}
+use Rattle.a2_timed_keys.specs.Rerun.{worlds_of, end_of}
 use Rattle.a2_symbols.specs.declared.routines.Entry.{Entry}
 use Rattle.a2_symbols.specs.Routines.{is_call, entry_at, with_call, entered}
 use Rattle.a2_profile.specs.Routines.{begin_of}
@@ -124,11 +124,6 @@ call_tree program worlds end =
     call_rows program worlds end.steps
     ++ (left_rows None program end.steps end.world.cycles 0 (visits worlds end.steps) ++ cause_line end.cause)
 
--- the tree of a text's run with these keys waiting: the run of `IsRun`, with the same code and start
-pub record IsCallTreeOf (text keys : List ℕ) (limit : ℕ) (free : Bool) (cause : Cause) (output : List ℕ) : Type 0 where
-  pub program : Assembled
-  pub is_program : IsProgramOf text program
-  pub end : End
-  pub is_end : IsEnd (code_of_run free program) (start_of_run program keys) limit end
-  pub cause_is : cause ≡ end.cause
-  pub output_is : output ≡ call_tree program (world_at (code_of_run free program) (start_of_run program keys)) end
+-- the tree of a finished run
+abbrev pub IsCallTreeOf : Finished → List ℕ → Type 0
+IsCallTreeOf run output = output ≡ call_tree run.program (worlds_of run) (end_of run)

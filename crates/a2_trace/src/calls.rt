@@ -7,21 +7,21 @@ ghost use Rattle.a2_stream.specs.Stream.{SendsOrBreaks};
 ghost use Rattle.a2_asm.specs.Entries.{entries};
 ghost use Rattle.a2_asm.specs.Programs.{begins_at as begins_at_of};
 ghost use Rattle.a2_machine.specs.Output.{cause_line};
-ghost use Rattle.a2_machine.specs.State.{code_of, world_of_state};
 ghost use Rattle.a2_run.specs.Answers.{Answers, is_read_fault};
-ghost use Rattle.a2_trace.specs.Called.{Draws, begun};
+ghost use Rattle.a2_timed_keys.specs.Rerun.{worlds_of, end_of};
+ghost use Rattle.a2_trace.specs.Called.{begun};
 ghost use Rattle.a2_trace.specs.Calls as tree;
 ghost use Rattle.a2_trace.specs.Calls.{IsCallTreeOf};
 
-use crate::trace::put_end;
 use a2_asm::{Names, Program, Statement};
-use a2_machine::{Cause, Machine};
+use a2_machine::{Machine, write_cause};
 use a2_profile::name_of;
-use a2_run::{AssembledText, RunArgs, RunFault, started};
+use a2_run::RunFault;
 use a2_services::service_at;
 use a2_stream::{Output, WriteFault, put_all};
 use a2_symbols::is_call;
 use a2_text::{decimal, hex_word};
+use a2_timed_keys::{Ended, Rerun};
 use arrayvec::ArrayVec;
 use std::alloc::Allocator;
 
@@ -54,7 +54,7 @@ fn indent(depth: usize) -> &'static [u8]
 }
 
 // Returns the name of a routine, or nothing.
-fn routine_name<A: Allocator>(names: &Names<A>, address: u16) -> &[u8]
+fn routine_name<A: Allocator + Copy>(names: &Names<A>, address: u16) -> &[u8]
     ensures { result.now ≡ tree.routine_name (entries names.now) address }
 {
     let own = name_of(names, address);
@@ -91,7 +91,7 @@ fn put_cells<'a, W: Output>(
 }
 
 // Writes a word, and a routine by its address and name.
-fn put_routine<A: Allocator, W: Output>(
+fn put_routine<A: Allocator + Copy, W: Output>(
     word: &[u8],
     names: &Names<A>,
     depth: usize,
@@ -163,7 +163,7 @@ fn put_caller<W: Output>(
 
 // Writes the row of a routine that is entered.
 #[tactic(auto, using(a2_stream::proofs::Joined::broke_off, a2_stream::proofs::Joined::went_on))]
-fn put_entered<A: Allocator, W: Output>(
+fn put_entered<A: Allocator + Copy, W: Output>(
     program: &Program<A>,
     depth: usize,
     visit: &Visit,
@@ -217,7 +217,7 @@ fn word_of(s: Option<u8>) -> &'static [u8]
 
 // Writes the row of a routine that does not continue.
 #[tactic(auto, using(a2_stream::proofs::Joined::broke_off, a2_stream::proofs::Joined::went_on))]
-fn put_back<A: Allocator, B: Allocator, W: Output>(
+fn put_back<A: Allocator + Copy, B: Allocator + Copy, W: Output>(
     s: Option<u8>,
     program: &Program<B>,
     machine: &Machine<A>,
@@ -241,7 +241,7 @@ fn put_back<A: Allocator, B: Allocator, W: Output>(
 }
 
 // Writes the rows of those routines that do not continue, the innermost first.
-fn put_left<A: Allocator, B: Allocator, W: Output>(
+fn put_left<A: Allocator + Copy, B: Allocator + Copy, W: Output>(
     s: Option<u8>,
     program: &Program<B>,
     machine: &Machine<A>,
@@ -260,7 +260,7 @@ fn put_left<A: Allocator, B: Allocator, W: Output>(
 
 // Enters a routine, and writes its row, if the last step of a machine was a JSR at `caller`, before which the stack pointer was
 // `s`.
-fn enter_where<A: Allocator, B: Allocator, W: Output>(
+fn enter_where<A: Allocator + Copy, B: Allocator + Copy, W: Output>(
     is_jsr: bool,
     caller: u16,
     s: u8,
@@ -291,7 +291,7 @@ fn enter_where<A: Allocator, B: Allocator, W: Output>(
 }
 
 // Leaves the routines that a machine's stack pointer is not below.
-fn leave<A: Allocator>(machine: &Machine<A>, visits: &mut Visits)
+fn leave<A: Allocator + Copy>(machine: &Machine<A>, visits: &mut Visits)
     ensures { visits.new.items ≡ filter (λ v. nat_lt machine.now.state.regs.s v.s) visits.old.items }
 {
     let s = machine.regs().s;
@@ -300,7 +300,7 @@ fn leave<A: Allocator>(machine: &Machine<A>, visits: &mut Visits)
 
 // Enters and leaves what the last step of a machine entered and left, and writes the rows.
 #[tactic(auto, using(a2_stream::proofs::Joined::broke_off, a2_stream::proofs::Joined::went_on))]
-fn put_step<A: Allocator, B: Allocator, W: Output>(
+fn put_step<A: Allocator + Copy, B: Allocator + Copy, W: Output>(
     is_jsr: bool,
     caller: u16,
     s: u8,
@@ -324,73 +324,66 @@ fn put_step<A: Allocator, B: Allocator, W: Output>(
     Ok(())
 }
 
-// Writes the rows of the routines that a run ended in, and the cause line. Returns the cause.
+// Writes the rows of the routines that a run ended in, and the cause line.
 #[tactic(auto, using(a2_stream::proofs::Joined::broke_off, a2_stream::proofs::Joined::went_on))]
-fn put_open<A: Allocator, B: Allocator, W: Output>(
-    cause: Cause,
-    program: &Program<B>,
-    machine: &Machine<A>,
+fn put_open<A: Allocator + Copy, W: Output>(
+    ended: &Ended<'_, A>,
     visits: &Visits,
     writer: &mut W,
-) -> Result<Cause, WriteFault>
-    ensures rows { let d = machine.now.state in
+) -> Result<(), WriteFault>
+    ensures { let f = ended.now in let end = end_of f in
         SendsOrBreaks (W.taker writer.old) (W.taker writer.new) result
-        (tree.left_rows None program.now d.steps d.cycles 0 visits.now.items ++ cause_line cause) }
-    ensures cause { IfOk result (λ told. told ≡ cause) }
+        (tree.left_rows None f.program end.steps end.world.cycles 0 visits.now.items ++ cause_line end.cause) }
 {
-    put_left(None, program, machine, visits, writer)?;
-    put_end(cause, writer)
+    put_left(None, ended.program(), ended.machine(), visits, writer)?;
+    write_cause(ended.cause(), writer)
 }
 
-// Runs a machine from its start, and writes its tree.
-fn draw_run<A: Allocator, B: Allocator, W: Output>(
-    machine: &mut Machine<A>,
-    limit: u32,
-    program: &Program<B>,
+// Executes a run, and writes its tree.
+fn draw_run<A: Allocator + Copy, W: Output>(
+    ended: &Ended<'_, A>,
+    rerun: &mut Rerun<'_, '_, A>,
     writer: &mut W,
-) -> Result<Cause, WriteFault>
-    requires { machine.old.state.steps ≡ 0 }
-    ensures { Draws program.now (code_of machine.old.state) (world_of_state machine.old.state) limit
-        (W.taker writer.old) (W.taker writer.new) result }
+) -> Result<(), WriteFault>
+    requires run { rerun.old.run ≡ ended.now }
+    requires start { rerun.old.steps ≡ 0 }
+    ensures { let f = ended.now in
+        SendsOrBreaks (W.taker writer.old) (W.taker writer.new) result (tree.call_tree f.program (worlds_of f) (end_of f)) }
 {
+    let program = ended.program();
     let mut visits = Visits::new();
-    for _ in 0..limit {
-        let is_jsr = is_call(machine);
-        let before = machine.regs();
-        if let Some(cause) = machine.step() {
-            return put_open(cause, program, machine, &visits, writer);
+    loop {
+        let is_jsr = is_call(rerun.machine());
+        let before = rerun.machine().regs();
+        if !rerun.step() {
+            return put_open(ended, &visits, writer);
         }
         put_step(
             is_jsr,
             before.pc,
             before.s,
             program,
-            machine,
+            rerun.machine(),
             &mut visits,
             writer,
         )?;
     }
-    let cause = machine.run(0);
-    put_open(cause, program, machine, &visits, writer)
 }
 
-/// Runs a source and writes its routines as a tree: a row where a JSR enters one, with its address and name, and where the JSR stands;
-/// and a row where it is left, with the steps and cycles since, including those of what it calls. At the end of the run there is such
-/// a row for each routine that was not left, and then the cause line. [`a2_symbols::enter`] and [`a2_symbols::leave`] say which
-/// routines there are; a service that is called is one. Each row is indented by two blanks more than that of the routine around it,
-/// up to 64. Returns the cause of the run's end. Fails if a write fails, or if there is not enough memory. This project's profile.
+/// Writes the routines of a run as a tree: a row where a JSR enters one, with its address and name, and where the JSR is; and a row where
+/// it is left, with the steps and cycles since, including those of what it calls. At the end of the run there is such a row for each
+/// routine that was not left, and then the cause line. [`a2_symbols::enter`] and [`a2_symbols::leave`] say which routines there are; a
+/// service that is called is one. Each row is indented by two blanks more than that of the routine around it, up to 64. Fails if a write
+/// fails, or if there is not enough memory. This project's profile.
 pub fn trace_calls<A: Allocator + Copy, W: Output>(
     alloc: A,
-    assembled: &AssembledText<'_, A>,
-    run: RunArgs<'_>,
+    ended: &Ended<'_, A>,
     writer: &mut W,
-) -> Result<Cause, RunFault>
-    ensures meaning { Answers (λ _. ⊥) (IsCallTreeOf assembled.now.text run.entry.keys.now run.entry.limit run.entry.free)
-        (W.taker writer.old) (W.taker writer.new) result }
+) -> Result<(), RunFault>
+    ensures meaning { Answers (λ _. ⊥) (λ _. IsCallTreeOf ended.now) (W.taker writer.old) (W.taker writer.new) result }
     ensures no_reader { is_read_fault result ≡ false }
 {
-    let program = assembled.program();
-    let mut machine = started(alloc, program, run.keys, run.free)?;
-    let cause = draw_run(&mut machine, run.limit, program, writer)?;
-    Ok(cause)
+    let mut rerun = ended.again(alloc, 0)?;
+    draw_run(ended, &mut rerun, writer)?;
+    Ok(())
 }

@@ -1,4 +1,4 @@
-//! Traces a source's run: a line for each chosen step, or its routines as a tree.
+//! Traces a finished run: a line for each chosen step, or its routines as a tree.
 //!
 //! CALLING.md shows how to call it.
 #![tactic(auto)]

@@ -1,45 +1,22 @@
-use Rattle.std.proofs.Common.{◌∙◌, List, ℕ, map, ap, sym}
-use Rattle.std.proofs.lemmas.Result.{err_from_is_err_and}
-use Rattle.std.specs.Borrow.{Bor}
-use Rattle.a2_stream.proofs.Joined.{Sends-nil}
-use Rattle.a2_text.specs.Lines.{lines}
-use Rattle.a2_film.proofs.TextRuns.{film-done, film-broken, head-broken}
+use Rattle.a2_machine.specs.ByteRun.{bytes}
+use Rattle.a2_machine.specs.State.{code_of, world_of_state}
+use Rattle.a2_run.specs.Started.{guard_of_run}
+use Rattle.a2_film.specs.Film.{IsFilmFrom}
+use Rattle.a2_film.specs.Filmed.{IsFilm, rest_of}
+use Rattle.a2_film.proofs.TextRuns.{film-answers, film-from}
 use Rattle.a2_film.proofs.film.film_run.Goals as goal
 
 pub returns-clause-meaning : goal.returns-clause-meaning
 returns-clause-meaning g c =
-    rw c.program-program.ensures.is at
-    (film-done c.args.assembled.now.text c.args.titles.title.now c.args.titles.chapters.now c.args.reel.free c.program-program.result.now
-    c.args.reel.machine c.guard_by.new.machine c.guard_by.ensures c.args.reel.limit (map (λ x. x.now) c.as_slice.result.now)
-    (ap (λ (items : List (Bor (List ℕ))). map (λ x. x.now) items) c.as_slice.ensures.value ∙ c.in_ok-texts.ensures ∙ ap lines c.text.ensures)
-    (g.W.Output.taker c.args.writer.now) (g.W.Output.taker c.put_head.new.writer) (g.W.Output.taker c.film_rest.new.writer)
-    c.in_ok-cause.cause c.in_ok-put_head.ensures c.in_ok-cause.ensures)
-
-pub returns-in_err-put_head-clause-meaning : goal.returns-in_err-put_head-clause-meaning
-returns-in_err-put_head-clause-meaning g c =
-    let fault = err_from_is_err_and c.from_residual-in_err-put_head.result c.from_residual-in_err-put_head.ensures.1 in
-    rw (fault.1, fault.2, sym c.program-program.ensures.is)
-    (head-broken c.args.assembled.now.text c.args.titles.title.now c.args.titles.chapters.now c.args.reel.free c.program-program.result.now
-    c.args.reel.machine c.guard_by.new.machine c.guard_by.ensures c.args.reel.limit (map (λ x. x.now) c.as_slice.result.now)
-    (ap (λ (items : List (Bor (List ℕ))). map (λ x. x.now) items) c.as_slice.ensures.value ∙ c.in_ok-texts.ensures ∙ ap lines c.text.ensures)
-    (g.W.Output.taker c.args.writer.now) (g.W.Output.taker c.put_head.new.writer) c.in_err-put_head.ensures)
-
-pub returns-in_err-cause-clause-meaning : goal.returns-in_err-cause-clause-meaning
-returns-in_err-cause-clause-meaning g c =
-    let fault = err_from_is_err_and c.from_residual-in_err-cause.result c.from_residual-in_err-cause.ensures.1 in
-    rw (fault.1, fault.2, sym c.program-program.ensures.is)
-    (film-broken c.args.assembled.now.text c.args.titles.title.now c.args.titles.chapters.now c.args.reel.free c.program-program.result.now
-    c.args.reel.machine c.guard_by.new.machine c.guard_by.ensures c.args.reel.limit (map (λ x. x.now) c.as_slice.result.now)
-    (ap (λ (items : List (Bor (List ℕ))). map (λ x. x.now) items) c.as_slice.ensures.value ∙ c.in_ok-texts.ensures ∙ ap lines c.text.ensures)
-    (g.W.Output.taker c.args.writer.now) (g.W.Output.taker c.put_head.new.writer) (g.W.Output.taker c.film_rest.new.writer)
-    c.in_ok-put_head.ensures c.in_err-cause.ensures)
-
-pub returns-in_err-texts-clause-meaning : goal.returns-in_err-texts-clause-meaning
-returns-in_err-texts-clause-meaning g c =
-    let fault = err_from_is_err_and c.from_residual.result c.from_residual.ensures.1 in
-    rw (fault.1, fault.2) (Sends-nil (g.W.Output.taker c.args.writer.now))
-
-pub returns-in_err-ram-clause-meaning : goal.returns-in_err-ram-clause-meaning
-returns-in_err-ram-clause-meaning g c =
-    let fault = err_from_is_err_and c.from_residual-in_err-ram.result c.from_residual-in_err-ram.ensures.1 in
-    rw (fault.1, fault.2) (Sends-nil (g.W.Output.taker c.args.writer.now))
+    let new = c.guard_by.new.machine in
+    rw (c.text.ensures, c.program-program.ensures.is) at
+    (film-answers (λ _. ⊥)
+    (IsFilm c.text.result.now c.args.titles.title.now c.args.titles.chapters.now c.args.reel.free c.program-program.result.now
+    new.state.steps (world_of_state new.state) (rest_of (code_of new.state) (world_of_state new.state) new.state.steps c.args.reel.limit))
+    (IsFilmFrom c.text.result.now c.args.titles.title.now c.args.titles.chapters.now c.args.reel.free c.program-program.result.now
+    (bytes (guard_of_run c.args.reel.free c.program-program.result.now)) c.args.reel.machine.state.steps
+    (world_of_state c.args.reel.machine.state) c.args.reel.limit)
+    (g.W.Output.taker c.args.writer.now) (g.W.Output.taker c.film_on.new.writer) c.film_on.result
+    (film-from c.text.result.now c.args.titles.title.now c.args.titles.chapters.now c.args.reel.free c.program-program.result.now
+    c.args.reel.machine new c.guard_by.ensures c.args.reel.limit c.requires c.film_on.ensures.range)
+    c.film_on.ensures.meaning)

@@ -21,11 +21,12 @@ returns-clause-items c =
     (byte_text 0x78 (changed old.x new.x)) (byte_text 0x79 (changed old.y new.y)) (byte_text 0x73 (changed old.s new.s))
     (byte_text 0x70 (changed (byte_of_flags old.flags) (byte_of_flags new.flags)))
     (switches_text (changed (switch_digit before.switches) (switch_digit after.switches)))
-    (keys_text (before.waiting - after.waiting))
+    (keys_text (before.waiting - (after.waiting - c.args.typed)))
     c.append_address.ensures.items
     (c.append_number.ensures.items ∙ ap (λ (n : ℕ). c.append_address.new.rows.items ++ decimal n) c.saturating_sub.ensures)
     c.append_byte.ensures.items c.append_byte-2.ensures.items c.append_byte-3.ensures.items c.append_byte-4.ensures.items
     (c.append_byte-5.ensures.items
     ∙ ap₂ (λ (o n : ℕ). c.append_byte-4.new.rows.items ++ byte_text 0x70 (changed o n)) c.pushed.ensures c.pushed-2.ensures)
     c.append_switches.ensures.items
-    (c.append_keys.ensures.items ∙ ap (λ (n : ℕ). c.append_switches.new.rows.items ++ keys_text n) c.saturating_sub-2.ensures)
+    (c.append_keys.ensures.items ∙ ap (λ (n : ℕ). c.append_switches.new.rows.items ++ keys_text n)
+    (c.saturating_sub-2.ensures ∙ ap (λ (n : ℕ). before.waiting - n) c.saturating_sub-left.ensures))

@@ -1,27 +1,8 @@
-use Rattle.std.proofs.Common.{refl}
 use Rattle.std.proofs.lemmas.Result.{err_from_is_err_and}
 use Rattle.a2_stream.proofs.Joined.{Sends-nil}
-use Rattle.a2_trace.proofs.Drawing.{tree-of}
 use Rattle.a2_trace.proofs.calls.trace_calls.Goals as goal
 
-pub returns-in_err-machine-clause-meaning : goal.returns-in_err-machine-clause-meaning
-returns-in_err-machine-clause-meaning g c =
+pub returns-in_err-rerun-clause-meaning : goal.returns-in_err-rerun-clause-meaning
+returns-in_err-rerun-clause-meaning g c =
     let fault = err_from_is_err_and c.from_residual.result c.from_residual.ensures.1 in
     rw (fault.1, fault.2) (Sends-nil (g.W.Output.taker c.args.writer.now))
-
-pub returns-in_err-cause-clause-no_reader : goal.returns-in_err-cause-clause-no_reader
-returns-in_err-cause-clause-no_reader g c =
-    let fault = err_from_is_err_and c.from_residual-in_err-cause.result c.from_residual-in_err-cause.ensures.1 in
-    rw (fault.1, fault.2) refl
-
-pub returns-in_err-cause-clause-meaning : goal.returns-in_err-cause-clause-meaning
-returns-in_err-cause-clause-meaning g c =
-    let fault = err_from_is_err_and c.from_residual-in_err-cause.result c.from_residual-in_err-cause.ensures.1 in
-    let (cause, output, is, broke) = c.in_err-cause.ensures in
-    rw (fault.1, fault.2)
-    (cause, output, tree-of c.args.assembled.now.text c.args.run.keys.now c.args.run.limit c.args.run.free c.program-program.result.now c.in_ok-machine.machine.state c.program-program.ensures.of_text c.in_ok-machine.ensures cause output is, broke)
-
-pub returns-clause-meaning : goal.returns-clause-meaning
-returns-clause-meaning g c =
-    let (output, is, sent) = c.in_ok-cause.ensures in
-    (output, tree-of c.args.assembled.now.text c.args.run.keys.now c.args.run.limit c.args.run.free c.program-program.result.now c.in_ok-machine.machine.state c.program-program.ensures.of_text c.in_ok-machine.ensures _ output is, sent)

@@ -1,19 +1,19 @@
-use Rattle.std.proofs.Common.{◌∙◌, sym, ap, ◌+◌, ◌-◌}
+use Rattle.std.proofs.Common.{◌∙◌, ap, suc}
 use Rattle.a2_bus.specs.View.{memory_of}
-use Rattle.a2_machine.specs.State.{Device, world_of_state}
-use Rattle.a2_trace.specs.Choices.{differ_from}
-use Rattle.a2_trace.proofs.Storing.{stores-by_call}
+use Rattle.a2_services.specs.World.{World}
+use Rattle.a2_machine.specs.State.{Device}
+use Rattle.a2_timed_keys.specs.Rerun.{Rerunning, worlds_of}
+use Rattle.a2_trace.proofs.Storing.{stores-called}
 use Rattle.a2_trace.proofs.choice.make_call.Goals as goal
 
-pub returns-in-Some : goal.returns-in-Some
-returns-in-Some g c = (sym c.in-Some.is ∙ c.step.ensures.cause, c.in-Some.ensures.stuck)
-
-pub returns-in-None : goal.returns-in-None
-returns-in-None g c =
-    let span = c.args.span in (
-      c.in-None.ensures.cause,
-      c.in-None.ensures.made,
+pub returns-then-step : goal.returns-then-step
+returns-then-step g c =
+    let old = c.args.rerun.now in
+    let (more, next) = c.step.ensures.made c.if-step.true in (
+      more,
+      next,
       c.differ.ensures
-          ∙ ap (λ (d : Device). differ_from (memory_of d.state.bus) (memory_of c.step.new.self.state.bus) span.first (span.last + 1 - span.first)) c.restore.ensures
-          ∙ sym (stores-by_call span (world_of_state c.args.machine.now.state) (world_of_state c.step.new.self.state) c.requires),
+          ∙ stores-called c.args.span (worlds_of old.run old.steps) (worlds_of old.run (suc old.steps)) _ _
+          (ap (λ (d : Device). memory_of d.state.bus) c.restore.ensures ∙ ap (λ (w : World). w.memory) c.machine.ensures.world)
+          (ap (λ (w : World). w.memory) (c.machine-then-step.ensures.world ∙ ap (λ (r : Rerunning). worlds_of r.run r.steps) next)) c.requires,
     )

@@ -1,32 +1,23 @@
-use Rattle.std.proofs.Common.{◌≡◌, ℕ, ◌+◌, sym, ◌∙◌, subst, arith}
-use Rattle.a2_machine.specs.State.{code_of, world_of_state}
-use Rattle.a2_trace.proofs.Tracing.{IsMade, byte-is, made-none, made-next, end-stuck, end-limit, count-end}
+use Rattle.std.proofs.Common.{ap, arith}
+use Rattle.a2_machine.specs.State.{Device}
+use Rattle.a2_timed_keys.specs.Rerun.{Rerunning, worlds_of, end_of}
+use Rattle.a2_trace.proofs.Tracing.{count-all, count-before}
 use Rattle.a2_trace.proofs.trace.count_chosen.Goals as goal
 
-pub loop-init : goal.loop-init
-loop-init g c = made-none c.args.choice.now c.args.machine.now c.requires
+pub returns-then-is_by_number : goal.returns-then-is_by_number
+returns-then-is_by_number g c =
+    let f = c.args.ended.now in
+    let (only, stores) = c.is_by_number.ensures c.if-is_by_number.true in
+    omega (
+      arith,
+      count-all c.args.choice.now (worlds_of f) only stores (end_of f).steps,
+      c.before_first-first.ensures,
+      c.steps.ensures,
+      ap (λ (d : Device). d.state.steps) c.machine.ensures,
+      c.from.ensures,
+    )
 
-pub returns-in-Err : goal.returns-in-Err
-returns-in-Err g c =
-    let start = c.args.machine.now.state in
-    let choice = c.args.choice.now in
-    count-end choice (code_of start) (world_of_state start) c.loop.machine c.loop.counter c.args.limit c.loop.count _ c.loop.invariant
-    (end-stuck choice (code_of start) (world_of_state start) c.loop.machine c.loop.counter c.args.limit c.loop.count _ c.loop.invariant
-    (omega (arith, c.loop-test.true)) (omega (arith, c.loop-test.true, c.ranges.limit.fits)) c.in-Err.ensures.0)
-
-pub loop-preserved : goal.loop-preserved
-loop-preserved g c =
-    let start = c.args.machine.now.state in
-    let choice = c.args.choice.now in
-    subst (λ (m : ℕ). IsMade choice (code_of start) (world_of_state start) c.make_step.new.machine (c.loop.counter + 1) (c.loop.count + m)) (sym (c.from-count.ensures ∙ byte-is c.in-Ok.chosen))
-    (made-next choice (code_of start) (world_of_state start) c.loop.machine c.make_step.new.machine c.loop.counter c.loop.count c.loop.invariant c.in-Ok.ensures.1
-    c.is_near-near.result c.in-Ok.chosen c.is_near-near.ensures c.in-Ok.ensures.2 (omega (arith, c.loop-test.true, c.ranges.limit.fits)) c.in-Ok.ensures.0)
-
-pub returns : goal.returns
-returns g c =
-    let start = c.args.machine.now.state in
-    let choice = c.args.choice.now in
-    let all : c.loop.counter ≡ c.args.limit = omega (arith, c.loop-test.false, c.loop.auto.counter-end) in
-    let made = subst (λ (n : ℕ). IsMade choice (code_of start) (world_of_state start) c.loop.machine n c.loop.count) all c.loop.invariant in
-    count-end choice (code_of start) (world_of_state start) c.loop.machine c.args.limit c.args.limit c.loop.count c.run.result made
-    (end-limit choice (code_of start) (world_of_state start) c.loop.machine c.run.new.self c.args.limit c.loop.count c.run.result made c.run.ensures)
+pub count_rest-requires-clause-none : goal.count_rest-requires-clause-none
+count_rest-requires-clause-none g c =
+    let steps = ap (λ (r : Rerunning). r.steps) c.in_ok-rerun.ensures in
+    count-before c.args.choice.now (worlds_of c.args.ended.now) c.in_ok-rerun.rerun.steps (omega (arith, steps, c.before_first-first.ensures))

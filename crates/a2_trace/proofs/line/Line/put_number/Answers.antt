@@ -1,4 +1,4 @@
-use Rattle.std.proofs.Common.{◌+◌, ◌/◌, ◌%◌, ◌++◌, List, ℕ, length, length-append, sym, ap, ◌∙◌, arith, lit<, refl}
+use Rattle.std.proofs.Common.{◌/◌, ◌%◌, ◌++◌, List, ℕ, length, length-append, sym, ap, ◌∙◌, arith, lit<, refl}
 use Rattle.std.specs.Fmt.{decimal}
 use Rattle.std.proofs.lemmas.List.{append_assoc}
 use Rattle.std.proofs.lemmas.Fmt.{decimal_digit, decimal_nonempty, length-decimal-le}
