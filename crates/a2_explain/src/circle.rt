@@ -1,58 +1,56 @@
 //! Routines that are called again before they return, until the stack is full.
 
-use crate::replay::{Replay, Step, WATCHED};
+use crate::past::Past;
+use crate::step::Step;
 use a2_asm::Program;
 use a2_opcode::Mnemonic;
 use a2_run::RunFault;
 use a2_stream::{Output, WriteFault, put};
-use a2_symbols::{Entry, Scene, enter, leave, put_place};
-use a2_timed_keys::Ended;
+use a2_symbols::{Scene, put_place};
 use std::alloc::{AllocError, Allocator};
 
-// Returns the calls of a circle, the last one first: those since the last call was made before. There is none if it was not.
-fn circle_of<A: Allocator + Copy>(alloc: A, entries: &[Entry]) -> Result<Vec<u16, A>, AllocError> {
+// Returns whether a step was a JSR that pushed past the end of the stack page.
+fn is_overflow(step: &Step) -> bool {
+    step.is(Mnemonic::Jsr) && step.regs.s < 2
+}
+
+// Returns the last step that filled the stack.
+fn last_overflow(steps: &[Step]) -> Option<Step> {
+    for step in steps.iter().rev() {
+        if is_overflow(step) {
+            return Some(*step);
+        }
+    }
+    None
+}
+
+// Returns the calls of the circle that last filled the stack, the last one first: those that were not left since the last call was
+// made before. There is none if it was not.
+fn circle_of<A: Allocator + Copy>(alloc: A, steps: &[Step]) -> Result<Vec<u16, A>, AllocError> {
     let mut calls = Vec::new(alloc);
-    let Some((last, before)) = entries.split_last() else {
+    let Some(last) = last_overflow(steps) else {
         return Ok(calls);
     };
-    for entry in before.iter().rev() {
-        calls.push(entry.call)?;
-        if entry.call == last.call {
-            return Ok(calls);
+    // A call was not left if S was less ever since.
+    let mut greatest = last.regs.s;
+    for step in steps.iter().rev() {
+        if step.before >= last.before || step.regs.s <= greatest {
+            continue;
+        }
+        greatest = step.regs.s;
+        if step.is(Mnemonic::Jsr) {
+            calls.push(step.regs.pc)?;
+            if step.regs.pc == last.regs.pc {
+                return Ok(calls);
+            }
         }
     }
     calls.clear();
     Ok(calls)
 }
 
-// Returns whether a step was a JSR that pushed past the end of the stack page.
-fn is_overflow(step: &Step) -> bool {
-    step.mnemonic() == Some(Mnemonic::Jsr) && step.regs.s < 2
-}
-
-// Returns the calls of the circle that last filled the stack in the last 100,000 steps of a run.
-fn last_circle<A: Allocator + Copy>(
-    alloc: A,
-    ended: &Ended<'_, A>,
-) -> Result<Vec<u16, A>, AllocError> {
-    let mut replay = Replay::of(alloc, ended, WATCHED)?;
-    let mut entries = Vec::new(alloc);
-    let mut circle = Vec::new(alloc);
-    for _ in 0..WATCHED {
-        enter(&mut entries, replay.machine())?;
-        let Some(step) = replay.make() else {
-            return Ok(circle);
-        };
-        if is_overflow(&step) {
-            circle = circle_of(alloc, entries.as_slice())?;
-        }
-        leave(&mut entries, replay.machine());
-    }
-    Ok(circle)
-}
-
 // Returns the target of the call at an address.
-fn target_of<A: Allocator>(program: &Program<A>, call: u16) -> Option<u16> {
+fn target_of<A: Allocator + Copy>(program: &Program<A>, call: u16) -> Option<u16> {
     match program.instr_at(call) {
         Some(instr) => Some(instr.value),
         None => None,
@@ -60,7 +58,7 @@ fn target_of<A: Allocator>(program: &Program<A>, call: u16) -> Option<u16> {
 }
 
 // Writes that a routine calls itself.
-fn put_recursion<A: Allocator, W: Output>(
+fn put_recursion<A: Allocator + Copy, W: Output>(
     scene: &Scene<A>,
     call: u16,
     writer: &mut W,
@@ -79,7 +77,7 @@ fn put_recursion<A: Allocator, W: Output>(
 }
 
 // Writes which lines call one another.
-fn put_circle<A: Allocator, W: Output>(
+fn put_circle<A: Allocator + Copy, W: Output>(
     scene: &Scene<A>,
     calls: &[u16],
     writer: &mut W,
@@ -96,15 +94,14 @@ fn put_circle<A: Allocator, W: Output>(
     Ok(())
 }
 
-/// Writes which lines called routines again before these returned, if that filled the stack in the last 100,000 steps of a run. Returns
+/// Writes which lines called routines again before these returned, if that filled the stack in the steps that are examined. Returns
 /// whether it did.
 pub(crate) fn report_circle<A: Allocator + Copy, W: Output>(
-    alloc: A,
     scene: &Scene<A>,
-    ended: &Ended<'_, A>,
+    past: &Past<'_, '_, A>,
     writer: &mut W,
 ) -> Result<bool, RunFault> {
-    let calls = last_circle(alloc, ended)?;
+    let calls = circle_of(past.alloc(), past.steps())?;
     match calls.as_slice() {
         [] => return Ok(false),
         [call] => put_recursion(scene, *call, writer)?,

@@ -1,6 +1,6 @@
 //! A hook that leads to where no routine is, and the lines that stored it.
 
-use crate::replay::{Replay, WATCHED};
+use crate::past::Past;
 use crate::window::byte_at;
 use a2_bus::locations::{CSW, KSW};
 use a2_machine::Machine;
@@ -9,8 +9,7 @@ use a2_services::{Takes, row_of, service_at};
 use a2_stream::{Output, WriteFault, put};
 use a2_symbols::{Scene, put_address, put_place};
 use a2_text::hex_pair;
-use a2_timed_keys::Ended;
-use std::alloc::{AllocError, Allocator};
+use std::alloc::Allocator;
 
 /// Returns the location of the hook through which the service at an address jumps, if it is such a service.
 pub(crate) fn hook_at(pc: u16) -> Option<u16> {
@@ -21,25 +20,6 @@ pub(crate) fn hook_at(pc: u16) -> Option<u16> {
     }
 }
 
-// Returns which of the last 100,000 steps of a run last stored at an address, by the address of its instruction.
-fn last_store<A: Allocator + Copy>(
-    alloc: A,
-    ended: &Ended<'_, A>,
-    address: u16,
-) -> Result<Option<u16>, AllocError> {
-    let mut replay = Replay::of(alloc, ended, WATCHED)?;
-    let mut stored_by = None;
-    for _ in 0..WATCHED {
-        let Some(step) = replay.make() else {
-            return Ok(stored_by);
-        };
-        if step.stores_at(address) {
-            stored_by = Some(step.regs.pc);
-        }
-    }
-    Ok(stored_by)
-}
-
 // Writes a byte, such as $36, in two digits.
 fn put_byte<W: Output>(byte: u8, writer: &mut W) -> Result<(), WriteFault> {
     put(b"$", writer)?;
@@ -47,7 +27,7 @@ fn put_byte<W: Output>(byte: u8, writer: &mut W) -> Result<(), WriteFault> {
 }
 
 // Writes what a hook holds.
-fn put_hook<A: Allocator, W: Output>(
+fn put_hook<A: Allocator + Copy, W: Output>(
     machine: &Machine<A>,
     hook: u16,
     writer: &mut W,
@@ -70,7 +50,7 @@ fn put_hook<A: Allocator, W: Output>(
 }
 
 // Writes which line stored a byte of a hook.
-fn put_store<A: Allocator, W: Output>(
+fn put_store<A: Allocator + Copy, W: Output>(
     scene: &Scene<A>,
     stored_by: u16,
     location: u16,
@@ -87,21 +67,22 @@ fn put_store<A: Allocator, W: Output>(
     put(b"\n", writer)
 }
 
-/// Writes what the hook at a location holds at the end of a run, and which lines last stored its bytes, as far as the last 100,000
-/// steps show.
+/// Writes what the hook at a location holds at the end of a run, and which lines last stored its bytes, as far as the examined steps
+/// show.
 pub(crate) fn report_hook<A: Allocator + Copy, W: Output>(
-    alloc: A,
     scene: &Scene<A>,
-    ended: &Ended<'_, A>,
+    past: &mut Past<'_, '_, A>,
     hook: u16,
     writer: &mut W,
 ) -> Result<(), RunFault> {
-    let machine = ended.machine();
+    let machine = past.ended().machine();
     put_hook(machine, hook, writer)?;
-    for location in [hook, hook.wrapping_add(1)] {
-        if let Some(stored_by) = last_store(alloc, ended, location)? {
+    let locations = [hook, hook.wrapping_add(1)];
+    past.look_for_stores(&locations)?;
+    for location in locations {
+        if let Some(step) = past.last_store(location) {
             let byte = byte_at(machine, location);
-            put_store(scene, stored_by, location, byte, writer)?;
+            put_store(scene, step.regs.pc, location, byte, writer)?;
         }
     }
     Ok(put(

@@ -8,11 +8,13 @@ mod hook;
 mod lines;
 mod off;
 mod overrun;
+mod past;
 mod places;
-mod replay;
+mod recorder;
 mod returned;
 mod rounds;
 mod stack;
+mod step;
 mod stop;
 mod window;
 

@@ -39,7 +39,7 @@ fn with_line(range: Option<Range>, line: u16) -> Option<Range> {
 }
 
 /// Writes which lines the instructions of a loop are in, as `lines 3 to 5, line 9`.
-pub(crate) fn put_lines<A: Allocator, W: Output>(
+pub(crate) fn put_lines<A: Allocator + Copy, W: Output>(
     scene: &Scene<A>,
     places: &[Place],
     writer: &mut W,

@@ -1,6 +1,8 @@
 //! A program that runs on into one of its routines, whose RTS then ends it.
 
-use crate::replay::{Replay, Step, WATCHED};
+use crate::past::Past;
+use crate::step::Step;
+use a2_asm::{Program, Statement};
 use a2_hex::RAM_END;
 use a2_opcode::Mnemonic;
 use a2_run::RunFault;
@@ -9,8 +11,8 @@ use a2_symbols::{Scene, put_place};
 use a2_timed_keys::Ended;
 use std::alloc::{AllocError, Allocator};
 
-// The greatest number of routines that are remembered.
-const MOST_ROUTINES: usize = 64;
+// How many addresses there are.
+const ADDRESSES: usize = 65_536;
 
 // A main program that ran on into a routine: the addresses of the instruction before the routine, of its first one, and of the RTS.
 #[derive(Clone, Copy)]
@@ -20,15 +22,63 @@ struct Overrun {
     end: u16,
 }
 
-// What was seen of the calls and of the main program.
+// The addresses to which the JSRs of a program lead.
 #[derive(Drop)]
-struct Watch<A: Allocator> {
-    // Where the routines that a JSR called begin, each once.
-    routines: Vec<u16, A>,
-    // The last step of the main program.
-    last: Option<Step>,
-    // The instruction from which it ran on into a routine, and the routine.
-    into: Option<(u16, u16)>,
+struct Routines<A: Allocator> {
+    marks: Vec<bool, A>,
+}
+
+// Returns the routine that the instruction of a statement calls.
+fn called_by(statement: &Statement) -> Option<u16> {
+    let instr = statement.instr?;
+    if instr.mnemonic == Mnemonic::Jsr {
+        Some(instr.value)
+    } else {
+        None
+    }
+}
+
+// Returns the address to which a program can run on after a statement.
+fn next_after(statement: &Statement) -> Option<u16> {
+    match statement.instr?.mnemonic {
+        Mnemonic::Jmp | Mnemonic::Rts | Mnemonic::Rti | Mnemonic::Brk => None,
+        _ => Some(statement.addr.wrapping_add(statement.length)),
+    }
+}
+
+impl<A: Allocator + Copy> Routines<A> {
+    // Returns the routines of a program. Fails only if there is not enough memory.
+    fn of(alloc: A, program: &Program<A>) -> Result<Routines<A>, AllocError> {
+        let mut marks = Vec::from_elem(alloc, false, ADDRESSES)?;
+        for statement in program.statements() {
+            if let Some(routine) = called_by(statement) {
+                if let Some(mark) = marks.get_mut(usize::from(routine)) {
+                    *mark = true;
+                }
+            }
+        }
+        Ok(Routines { marks })
+    }
+
+    // Returns whether a routine begins at an address.
+    fn has(&self, address: u16) -> bool {
+        match self.marks.get(usize::from(address)) {
+            Some(mark) => *mark,
+            None => false,
+        }
+    }
+
+    // Returns whether the lines before a routine can run on into it.
+    fn can_be_run_into(&self, program: &Program<A>) -> bool {
+        for statement in program.statements() {
+            if let Some(next) = next_after(statement) {
+                if self.has(next) {
+                    return true;
+                }
+            }
+        }
+        false
+    }
 }
 
 // Returns whether a step belongs to the main program: nothing is on the stack but the last return address.
@@ -37,76 +87,50 @@ fn is_main(step: &Step, start: u8) -> bool {
 }
 
 // Returns whether a step at `pc` follows another one in the order of the source, and not by JMP.
-fn follows(last: Step, pc: u16) -> bool {
-    last.end() == Some(pc) && last.mnemonic() != Some(Mnemonic::Jmp)
+fn follows(last: &Step, pc: u16) -> bool {
+    last.end() == Some(pc) && !last.is(Mnemonic::Jmp)
 }
 
-impl<A: Allocator> Watch<A> {
-    // Notes the routine that a JSR called, once. Fails only if there is not enough memory.
-    fn note_call(&mut self, routine: u16) -> Result<(), AllocError> {
-        let is_known = self.routines.iter().any(|known| *known == routine);
-        if is_known || routine >= RAM_END || self.routines.len() >= MOST_ROUTINES {
-            return Ok(());
+// Returns the last step of the main program.
+fn last_main(steps: &[Step], start: u8) -> Option<Step> {
+    for step in steps.iter().rev() {
+        if is_main(step, start) {
+            return Some(*step);
         }
-        self.routines.push(routine)?;
-        Ok(())
     }
-
-    // Notes a step of the main program.
-    fn note_main(&mut self, step: Step) {
-        let pc = step.regs.pc;
-        if let Some(last) = self.last {
-            if follows(last, pc) && self.routines.iter().any(|routine| *routine == pc) {
-                self.into = Some((last.regs.pc, pc));
-            }
-        }
-        self.last = Some(step);
-    }
-
-    // Returns what ended the program, if that was the RTS of a routine into which it ran.
-    fn overrun(&self) -> Option<Overrun> {
-        let (before, routine) = self.into?;
-        let last = self.last?;
-        if last.mnemonic() != Some(Mnemonic::Rts) {
-            return None;
-        }
-        Some(Overrun {
-            before,
-            routine,
-            end: last.regs.pc,
-        })
-    }
+    None
 }
 
-// Returns how the last 100,000 steps of a run that returned ran on into a routine, if they did.
-fn overrun_of<A: Allocator + Copy>(
-    alloc: A,
-    ended: &Ended<'_, A>,
-) -> Result<Option<Overrun>, AllocError> {
-    let mut replay = Replay::of(alloc, ended, WATCHED)?;
-    // The last RTS pulled two bytes.
-    let start = ended.machine().regs().s.wrapping_sub(2);
-    let mut watch = Watch {
-        routines: Vec::new(alloc),
-        last: None,
-        into: None,
-    };
-    for _ in 0..WATCHED {
-        let Some(step) = replay.make() else {
-            return Ok(watch.overrun());
-        };
-        if step.mnemonic() == Some(Mnemonic::Jsr) {
-            watch.note_call(replay.machine().regs().pc)?;
-        }
-        if is_main(&step, start) {
-            watch.note_main(step);
-        }
+// Returns how the examined steps of a run that returned ran on into a routine, if they did and the RTS of that routine ended the run.
+// `start` is S before that.
+fn overrun_in<A: Allocator + Copy>(
+    steps: &[Step],
+    routines: &Routines<A>,
+    start: u8,
+) -> Option<Overrun> {
+    let last = last_main(steps, start)?;
+    if !last.is(Mnemonic::Rts) {
+        return None;
     }
-    Ok(watch.overrun())
+    let mut later = last.regs.pc;
+    for step in steps.iter().rev() {
+        if !is_main(step, start) {
+            continue;
+        }
+        if follows(step, later) && routines.has(later) {
+            return Some(Overrun {
+                before: step.regs.pc,
+                routine: later,
+                end: last.regs.pc,
+            });
+        }
+        later = step.regs.pc;
+    }
+    None
 }
 
 // Writes where a program ran on into a routine.
-fn put_overrun<A: Allocator, W: Output>(
+fn put_overrun<A: Allocator + Copy, W: Output>(
     scene: &Scene<A>,
     overrun: Overrun,
     writer: &mut W,
@@ -125,15 +149,22 @@ fn put_overrun<A: Allocator, W: Output>(
     put(b"\n", writer)
 }
 
-/// Writes where the main program of a run that returned ran on into a routine, whose RTS ended it, as far as the last 100,000 steps
-/// show.
+/// Writes where the main program of a run that returned ran on into a routine, whose RTS ended it, as far as the last 4,096 steps show.
+/// Examines no step if no line can run on into a routine.
 pub(crate) fn report_overrun<A: Allocator + Copy, W: Output>(
     alloc: A,
     scene: &Scene<A>,
     ended: &Ended<'_, A>,
     writer: &mut W,
 ) -> Result<(), RunFault> {
-    match overrun_of(alloc, ended)? {
+    let routines = Routines::of(alloc, scene.program)?;
+    if !routines.can_be_run_into(scene.program) {
+        return Ok(());
+    }
+    let past = Past::of(alloc, ended)?;
+    // The last RTS pulled two bytes.
+    let start = ended.machine().regs().s.wrapping_sub(2);
+    match overrun_in(past.steps(), &routines, start) {
         Some(overrun) => Ok(put_overrun(scene, overrun, writer)?),
         None => Ok(()),
     }

@@ -1,13 +1,9 @@
 //! The addresses of the loop in which a run was at its end.
 
-use crate::replay::Replay;
+use crate::past::{NEAR, Past};
 use a2_asm::Statement;
-use a2_cpu::Regs;
-use a2_timed_keys::Ended;
+use a2_effect::Regs;
 use std::alloc::{AllocError, Allocator};
-
-/// How many steps before the limit are examined.
-pub(crate) const LOOPED: u32 = 4096;
 
 // The greatest number of addresses in a loop that is reported.
 const MOST_PLACES: usize = 64;
@@ -53,7 +49,7 @@ impl Place {
 }
 
 // Notes that a step began with these registers after one at `before`. Returns whether there was room.
-fn note<A: Allocator>(
+fn note<A: Allocator + Copy>(
     places: &mut Vec<Place, A>,
     regs: Regs,
     before: u16,
@@ -73,21 +69,17 @@ fn note<A: Allocator>(
     Ok(true)
 }
 
-/// Returns where the last 4,096 steps of a run began; nothing if there were fewer, or if they began at more than 64 addresses.
+/// Returns where the last 4,096 steps of a run began; nothing if there were fewer, or if they began at more than 64 addresses. Fails only
+/// if there is not enough memory.
 pub(crate) fn places_of<A: Allocator + Copy>(
-    alloc: A,
-    ended: &Ended<'_, A>,
+    past: &Past<'_, '_, A>,
 ) -> Result<Vec<Place, A>, AllocError> {
-    let mut places = Vec::new(alloc);
-    if ended.machine().steps() < u64::from(LOOPED) {
-        return Ok(places);
-    }
-    let mut replay = Replay::of(alloc, ended, LOOPED)?;
+    let mut places = Vec::new(past.alloc());
     let mut before = None;
-    for _ in 0..LOOPED {
-        let Some(step) = replay.make() else {
-            return Ok(places);
-        };
+    let Some(steps) = past.last(NEAR as usize) else {
+        return Ok(places);
+    };
+    for step in steps {
         if let Some(before) = before {
             if !note(&mut places, step.regs, before)? {
                 places.clear();

@@ -12,10 +12,10 @@ const ELSEWHERE: &[u8] =
     b"a2lab: S did not point to a return address; restore S before RTS, or end with JMP $FF69; the last return address is at $01FE\n";
 
 const UNSEEN: &[u8] =
-    b"a2lab: the last 100000 steps do not show what pushed the bytes that it pulled\n";
+    b"a2lab: the last 65536 steps do not show what pushed the bytes that it pulled\n";
 
 // Writes texts around the place of an address.
-fn put_around<A: Allocator, W: Output>(
+fn put_around<A: Allocator + Copy, W: Output>(
     scene: &Scene<A>,
     before: &[u8],
     address: u16,
@@ -28,7 +28,7 @@ fn put_around<A: Allocator, W: Output>(
 }
 
 /// Writes that the program continued after the line of an address, at another address, where no instruction begins.
-pub(crate) fn put_after<A: Allocator, W: Output>(
+pub(crate) fn put_after<A: Allocator + Copy, W: Output>(
     scene: &Scene<A>,
     line: u16,
     next: u16,
@@ -57,17 +57,17 @@ pub(crate) fn put_after<A: Allocator, W: Output>(
 }
 
 // Writes where an RTS or a service returned, and why.
-fn put_way<A: Allocator, W: Output>(
+fn put_way<A: Allocator + Copy, W: Output>(
     scene: &Scene<A>,
     it: &Return,
     writer: &mut W,
 ) -> Result<(), WriteFault> {
     put_around(scene, b"a2lab: ", it.step.regs.pc, b" went to ", writer)?;
-    put_address(it.to, writer)
+    put_address(it.step.next_pc, writer)
 }
 
 // Writes that an RTS pulled what PHA or PHP pushed.
-fn put_pushed<A: Allocator, W: Output>(
+fn put_pushed<A: Allocator + Copy, W: Output>(
     scene: &Scene<A>,
     it: &Return,
     pushed_by: u16,
@@ -84,7 +84,7 @@ fn put_pushed<A: Allocator, W: Output>(
 }
 
 // Writes that an RTS pulled a byte that PHA or PHP pushed in place of the low byte of a return address.
-fn put_replaced<A: Allocator, W: Output>(
+fn put_replaced<A: Allocator + Copy, W: Output>(
     scene: &Scene<A>,
     it: &Return,
     pushed_by: u16,
@@ -101,7 +101,7 @@ fn put_replaced<A: Allocator, W: Output>(
 }
 
 // Writes that an RTS pulled what two instructions pushed.
-fn put_both<A: Allocator, W: Output>(
+fn put_both<A: Allocator + Copy, W: Output>(
     scene: &Scene<A>,
     it: &Return,
     low: u16,
@@ -118,7 +118,7 @@ fn put_both<A: Allocator, W: Output>(
 }
 
 // Writes that an instruction stored over a return address.
-fn put_overwritten<A: Allocator, W: Output>(
+fn put_overwritten<A: Allocator + Copy, W: Output>(
     scene: &Scene<A>,
     stored_by: u16,
     at: u16,
@@ -133,7 +133,7 @@ fn put_overwritten<A: Allocator, W: Output>(
 }
 
 // Writes that an instruction pulled a byte of a return address.
-fn put_short<A: Allocator, W: Output>(
+fn put_short<A: Allocator + Copy, W: Output>(
     scene: &Scene<A>,
     pulled_by: u16,
     call: Option<u16>,
@@ -157,13 +157,13 @@ fn put_short<A: Allocator, W: Output>(
 }
 
 /// Writes why an RTS, or a service, did not return to an instruction of the source.
-pub(crate) fn put_return<A: Allocator, W: Output>(
+pub(crate) fn put_return<A: Allocator + Copy, W: Output>(
     scene: &Scene<A>,
     it: &Return,
     writer: &mut W,
 ) -> Result<(), WriteFault> {
     match it.pulled {
-        Pulled::Call(call) => put_after(scene, call, it.to, writer),
+        Pulled::Call(call) => put_after(scene, call, it.step.next_pc, writer),
         Pulled::Pushed(by) => put_pushed(scene, it, by, writer),
         Pulled::Replaced(by) => put_replaced(scene, it, by, writer),
         Pulled::BothPushed(low, high) => put_both(scene, it, low, high, writer),
@@ -171,6 +171,5 @@ pub(crate) fn put_return<A: Allocator, W: Output>(
         Pulled::Short(by, call) => put_short(scene, by, call, writer),
         Pulled::Elsewhere => put(ELSEWHERE, writer),
         Pulled::Unseen => put(UNSEEN, writer),
-        Pulled::Last => Ok(()),
     }
 }

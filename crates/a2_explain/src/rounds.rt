@@ -2,7 +2,8 @@
 
 use crate::hook::{hook_at, report_hook};
 use crate::lines::put_lines;
-use crate::places::{LOOPED, Place, is_among, place_at, places_of};
+use crate::past::{NEAR, Past};
+use crate::places::{Place, is_among, place_at, places_of};
 use a2_asm::Statement;
 use a2_bus::locations::KBD;
 use a2_machine::Machine;
@@ -10,7 +11,6 @@ use a2_opcode::{Mnemonic, Mode};
 use a2_run::RunFault;
 use a2_stream::{Output, WriteFault, put};
 use a2_symbols::{Scene, put_number, put_place, statement_at};
-use a2_timed_keys::Ended;
 use std::alloc::Allocator;
 
 // Returns whether the instruction of a statement reads the keyboard.
@@ -65,7 +65,7 @@ fn put_change<W: Output>(place: Place, writer: &mut W) -> Result<(), WriteFault>
 }
 
 // Writes how a branch that would leave a loop did not leave it.
-fn put_exit<A: Allocator, W: Output>(
+fn put_exit<A: Allocator + Copy, W: Output>(
     scene: &Scene<A>,
     place: Place,
     way: Way,
@@ -90,7 +90,7 @@ fn put_exit<A: Allocator, W: Output>(
 }
 
 // Writes how each branch that would leave a loop did not leave it. Returns whether there is one.
-fn put_exits<A: Allocator, W: Output>(
+fn put_exits<A: Allocator + Copy, W: Output>(
     scene: &Scene<A>,
     places: &[Place],
     writer: &mut W,
@@ -122,13 +122,13 @@ fn is_own_jump(statement: &Statement) -> bool {
 }
 
 // Writes which lines a loop has, and which branches would leave it.
-fn put_loop<A: Allocator, W: Output>(
+fn put_loop<A: Allocator + Copy, W: Output>(
     scene: &Scene<A>,
     places: &[Place],
     writer: &mut W,
 ) -> Result<(), WriteFault> {
     put(b"a2lab: the last ", writer)?;
-    put_number(u64::from(LOOPED), writer)?;
+    put_number(u64::from(NEAR), writer)?;
     put(b" steps were all in ", writer)?;
     put_lines(scene, places, writer)?;
     put(b"\n", writer)?;
@@ -145,7 +145,7 @@ fn put_loop<A: Allocator, W: Output>(
 }
 
 // Writes that a line jumps to itself.
-fn put_own_jump<A: Allocator, W: Output>(
+fn put_own_jump<A: Allocator + Copy, W: Output>(
     scene: &Scene<A>,
     pc: u16,
     writer: &mut W,
@@ -159,7 +159,7 @@ fn put_own_jump<A: Allocator, W: Output>(
 }
 
 // Writes which lines wait for a key.
-fn put_wait<A: Allocator, W: Output>(
+fn put_wait<A: Allocator + Copy, W: Output>(
     scene: &Scene<A>,
     places: &[Place],
     writer: &mut W,
@@ -170,7 +170,11 @@ fn put_wait<A: Allocator, W: Output>(
 }
 
 // Returns whether a loop waits for a key: it reads the keyboard, no key is there, and a branch leads out.
-fn is_waiting<A: Allocator>(scene: &Scene<A>, machine: &Machine<A>, places: &[Place]) -> bool {
+fn is_waiting<A: Allocator + Copy>(
+    scene: &Scene<A>,
+    machine: &Machine<A>,
+    places: &[Place],
+) -> bool {
     let statements = scene.program.statements();
     let reads = statements
         .iter()
@@ -180,7 +184,7 @@ fn is_waiting<A: Allocator>(scene: &Scene<A>, machine: &Machine<A>, places: &[Pl
 }
 
 // Writes what is known of a loop with lines of the source.
-fn put_round<A: Allocator, W: Output>(
+fn put_round<A: Allocator + Copy, W: Output>(
     scene: &Scene<A>,
     machine: &Machine<A>,
     places: &[Place],
@@ -205,19 +209,18 @@ fn put_round<A: Allocator, W: Output>(
 /// Writes which lines the loop has in which the last 4,096 steps of a run were, if they began at 64 addresses or fewer, and how its
 /// branches did not leave it. If the loop is a hook that leads to itself, writes what stored the hook.
 pub(crate) fn report_round<A: Allocator + Copy, W: Output>(
-    alloc: A,
     scene: &Scene<A>,
-    ended: &Ended<'_, A>,
+    past: &mut Past<'_, '_, A>,
     writer: &mut W,
 ) -> Result<(), RunFault> {
-    let (machine, places) = (ended.machine(), places_of(alloc, ended)?);
+    let (machine, places) = (past.ended().machine(), places_of(past)?);
     let places = places.as_slice();
     let statements = scene.program.statements();
     if statements.iter().any(|it| is_among(it, places)) {
         return Ok(put_round(scene, machine, places, writer)?);
     }
     match (places, hook_at(machine.regs().pc)) {
-        ([_, ..], Some(hook)) => report_hook(alloc, scene, ended, hook, writer),
+        ([_, ..], Some(hook)) => report_hook(scene, past, hook, writer),
         _ => Ok(()),
     }
 }

@@ -1,15 +1,14 @@
 //! What instructions did to the stack, and what each RTS pulled. A service returns as RTS does.
 
-use crate::replay::{Replay, Step, WATCHED};
-use a2_bus::locations::LAST_RETURN;
+use crate::past::Past;
+use crate::step::Step;
 use a2_opcode::Mnemonic;
-use a2_timed_keys::Ended;
 use std::alloc::{AllocError, Allocator};
 
-// What last stored a byte of the stack page, as far as the watched steps show.
+// What last stored a byte of the stack page, as far as the examined steps show.
 #[derive(Clone, Copy)]
 enum Origin {
-    // No watched step.
+    // No examined step.
     Unseen,
     // The JSR at this address, whose return address has this low byte.
     Low(u16),
@@ -39,8 +38,6 @@ const UNSEEN: Byte = Byte {
 pub(crate) enum Pulled {
     /// The return address that this JSR pushed.
     Call(u16),
-    /// The last return address, which is on the stack at the start.
-    Last,
     /// A byte that this PHA or PHP pushed, and no byte of another one.
     Pushed(u16),
     /// A byte that this PHA or PHP pushed in place of the low byte of a return address.
@@ -54,23 +51,22 @@ pub(crate) enum Pulled {
     Short(u16, Option<u16>),
     /// Other bytes: the stack pointer was elsewhere.
     Elsewhere,
-    /// Bytes that were stored before the watched steps.
+    /// Bytes that were stored before the examined steps.
     Unseen,
 }
 
-/// An RTS, what it pulled, and where it went.
+/// An RTS, and what it pulled.
 #[derive(Clone, Copy)]
 pub(crate) struct Return {
     pub step: Step,
     pub pulled: Pulled,
-    pub to: u16,
 }
 
 /// The bytes of the stack page.
 #[derive(Drop)]
 struct Stack<A: Allocator> {
     bytes: Vec<Byte, A>,
-    // Whether all steps since the start are watched.
+    // Whether all steps since the start are examined.
     is_whole: bool,
 }
 
@@ -79,8 +75,8 @@ fn stack_address(offset: u8) -> u16 {
     u16::from_le_bytes([offset, 1])
 }
 
-impl<A: Allocator> Stack<A> {
-    // No step is watched yet. Fails only if there is not enough memory.
+impl<A: Allocator + Copy> Stack<A> {
+    // No step is noted yet. Fails only if there is not enough memory.
     fn new(alloc: A, is_whole: bool) -> Result<Stack<A>, AllocError> {
         Ok(Stack {
             bytes: Vec::from_elem(alloc, UNSEEN, 256)?,
@@ -88,15 +84,8 @@ impl<A: Allocator> Stack<A> {
         })
     }
 
-    // Notes what stored a byte, if it is in the stack page.
-    fn note_store(&mut self, address: Option<u16>, origin: Origin) {
-        let Some(address) = address else {
-            return;
-        };
-        let [offset, page] = address.to_le_bytes();
-        if page != 1 {
-            return;
-        }
+    // Notes what stored the byte at $0100 plus this offset.
+    fn note_byte(&mut self, offset: u8, origin: Origin) {
         if let Some(byte) = self.bytes.get_mut(usize::from(offset)) {
             *byte = Byte {
                 origin,
@@ -112,18 +101,27 @@ impl<A: Allocator> Stack<A> {
         }
     }
 
+    // Notes what the instruction of a step stored at its operand, if that is in the stack page.
+    fn note_store(&mut self, step: &Step) {
+        if let Some(store) = step.store {
+            let [offset, page] = store.address.to_le_bytes();
+            if page == 1 {
+                self.note_byte(offset, Origin::Stored(step.regs.pc));
+            }
+        }
+    }
+
     // Notes what a step did to the stack page.
     fn note(&mut self, step: &Step) {
-        let pc = step.regs.pc;
-        let [first, second] = step.stores;
+        let (pc, s) = (step.regs.pc, step.regs.s);
         match step.mnemonic() {
             Some(Mnemonic::Jsr) => {
-                self.note_store(first, Origin::High(pc));
-                self.note_store(second, Origin::Low(pc));
+                self.note_byte(s, Origin::High(pc));
+                self.note_byte(s.wrapping_sub(1), Origin::Low(pc));
             }
-            Some(Mnemonic::Pha | Mnemonic::Php) => self.note_store(first, Origin::Pushed(pc)),
-            Some(Mnemonic::Pla | Mnemonic::Plp) => self.note_pull(step.regs.s.wrapping_add(1), pc),
-            _ => self.note_store(first, Origin::Stored(pc)),
+            Some(Mnemonic::Pha | Mnemonic::Php) => self.note_byte(s, Origin::Pushed(pc)),
+            Some(Mnemonic::Pla | Mnemonic::Plp) => self.note_pull(s.wrapping_add(1), pc),
+            _ => self.note_store(step),
         }
     }
 
@@ -164,7 +162,6 @@ impl<A: Allocator> Stack<A> {
             Origin::Pushed(by) => pulled_after_push(by, high),
             Origin::Stored(by) => pulled_after_store(by, address, high),
             Origin::Low(call) if is_high_of(high, call) => Pulled::Call(call),
-            Origin::Unseen if is_unseen(high) && address == LAST_RETURN => Pulled::Last,
             _ => self.pulled_by_high(s),
         }
     }
@@ -195,29 +192,21 @@ fn is_high_of(origin: Origin, call: u16) -> bool {
     }
 }
 
-// Returns whether no watched step stored a byte.
-fn is_unseen(origin: Origin) -> bool {
-    match origin {
-        Origin::Unseen => true,
-        _ => false,
-    }
-}
-
-/// What the watched steps of a run pulled by RTS.
+/// What the examined steps of a run pulled by RTS.
 #[derive(Clone, Copy)]
 pub(crate) struct Returns {
-    /// The last RTS.
+    /// The last step, if it was an RTS.
     pub last: Option<Return>,
     /// The last RTS that pulled a byte above a return address, or above the low byte of one. A program that pushes an address for an
     /// RTS does not do this.
     pub astray: Option<Return>,
 }
 
-// Returns whether a step was an RTS, or a service that returned as RTS does; `s` is S after it.
-fn is_return(step: &Step, s: u8) -> bool {
+// Returns whether a step was an RTS, or a service that returned as RTS does.
+fn is_return(step: &Step) -> bool {
     match step.mnemonic() {
         Some(mnemonic) => mnemonic == Mnemonic::Rts,
-        None => s == step.regs.s.wrapping_add(2),
+        None => step.next_s == step.regs.s.wrapping_add(2),
     }
 }
 
@@ -226,34 +215,28 @@ fn is_astray(pulled: Pulled) -> bool {
     matches!(pulled, Pulled::Pushed(_) | Pulled::Short(_, _))
 }
 
-/// Returns what the last 100,000 steps of a run pulled by RTS. Fails only if there is not enough memory.
+/// Returns what the examined steps of a run pulled by RTS. Fails only if there is not enough memory.
 pub(crate) fn returns_of<A: Allocator + Copy>(
-    alloc: A,
-    ended: &Ended<'_, A>,
+    past: &Past<'_, '_, A>,
 ) -> Result<Returns, AllocError> {
-    let mut replay = Replay::of(alloc, ended, WATCHED)?;
-    let mut stack = Stack::new(alloc, replay.machine().steps() == 0)?;
+    let mut stack = Stack::new(past.alloc(), past.is_whole())?;
     let mut returns = Returns {
         last: None,
         astray: None,
     };
-    for _ in 0..WATCHED {
-        let Some(step) = replay.make() else {
-            return Ok(returns);
-        };
-        let now = replay.machine().regs();
-        if is_return(&step, now.s) {
+    for step in past.steps() {
+        returns.last = None;
+        if is_return(step) {
             let it = Return {
-                step,
+                step: *step,
                 pulled: stack.pulled_at(step.regs.s),
-                to: now.pc,
             };
             returns.last = Some(it);
             if is_astray(it.pulled) {
                 returns.astray = Some(it);
             }
         }
-        stack.note(&step);
+        stack.note(step);
     }
     Ok(returns)
 }

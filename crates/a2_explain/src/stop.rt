@@ -3,13 +3,16 @@
 use crate::circle::report_circle;
 use crate::off::{ending_of, report_off};
 use crate::overrun::report_overrun;
-use crate::replay::{Step, stores_at_pc};
+use crate::past::Past;
 use crate::returned::put_return;
 use crate::rounds::report_round;
 use crate::stack::returns_of;
+use crate::step::Step;
 use crate::window::report_window;
+use a2_cpu::writes;
 use a2_hex::RAM_END;
 use a2_machine::{Cause, Machine};
+use a2_opcode::Mnemonic;
 use a2_run::{AssembledText, RunFault};
 use a2_services::{Needs, row_of, service_at};
 use a2_stream::{Output, WriteFault, put};
@@ -28,7 +31,7 @@ const SERVICE_STORES: &[u8] =
     b"a2lab: that service stores at $24 to $29 and $0400 to $07FF (the screen), GETLN also at $0200; put no code there\n";
 
 // Writes which line of the source ran last.
-fn put_last<A: Allocator, W: Output>(
+fn put_last<A: Allocator + Copy, W: Output>(
     scene: &Scene<A>,
     step: Step,
     writer: &mut W,
@@ -41,7 +44,7 @@ fn put_last<A: Allocator, W: Output>(
 }
 
 // Writes where a run stopped, and why.
-fn put_stop<A: Allocator, W: Output>(
+fn put_stop<A: Allocator + Copy, W: Output>(
     scene: &Scene<A>,
     pc: u16,
     cause: Cause,
@@ -55,7 +58,7 @@ fn put_stop<A: Allocator, W: Output>(
 }
 
 // Writes which code the next instruction would overwrite, if it is at this address.
-fn put_code_store<A: Allocator, W: Output>(
+fn put_code_store<A: Allocator + Copy, W: Output>(
     scene: &Scene<A>,
     address: u16,
     writer: &mut W,
@@ -73,7 +76,7 @@ fn put_code_store<A: Allocator, W: Output>(
 }
 
 // Writes which code the next instruction or service would overwrite.
-fn put_code_write<A: Allocator, W: Output>(
+fn put_code_write<A: Allocator + Copy, W: Output>(
     scene: &Scene<A>,
     machine: &Machine<A>,
     writer: &mut W,
@@ -81,10 +84,9 @@ fn put_code_write<A: Allocator, W: Output>(
     if machine.regs().pc >= RAM_END {
         return put(SERVICE_STORES, writer);
     }
-    for address in stores_at_pc(machine) {
-        if let Some(address) = address {
-            put_code_store(scene, address, writer)?;
-        }
+    let addresses = writes(&machine.regs(), machine.space());
+    for address in addresses.as_slice() {
+        put_code_store(scene, *address, writer)?;
     }
     Ok(())
 }
@@ -98,7 +100,7 @@ fn needs_line(pc: u16) -> bool {
 }
 
 // Writes which line waits for a key.
-fn put_keys<A: Allocator, W: Output>(
+fn put_keys<A: Allocator + Copy, W: Output>(
     scene: &Scene<A>,
     step: Step,
     pc: u16,
@@ -115,14 +117,13 @@ fn put_keys<A: Allocator, W: Output>(
 }
 
 // Writes which line of the source was the last before a stop, and how to fix it.
-fn put_way<A: Allocator + Copy, W: Output>(
-    alloc: A,
+fn report_way<A: Allocator + Copy, W: Output>(
     scene: &Scene<A>,
-    ended: &Ended<'_, A>,
+    past: &mut Past<'_, '_, A>,
     writer: &mut W,
 ) -> Result<(), RunFault> {
-    let (cause, machine) = (ended.cause(), ended.machine());
-    let ending = ending_of(alloc, ended)?;
+    let (cause, machine) = (past.ended().cause(), past.ended().machine());
+    let ending = ending_of(scene.program, past.steps());
     if let Some(ending) = ending {
         if matches!(cause, Cause::Keys) {
             let pc = machine.regs().pc;
@@ -132,28 +133,50 @@ fn put_way<A: Allocator + Copy, W: Output>(
     }
     match (cause, ending) {
         (Cause::OffStatement | Cause::Rom | Cause::Opcode, Some(ending)) => {
-            report_off(alloc, scene, ended, ending, writer)
+            report_off(scene, past, ending, writer)
         }
         (Cause::CodeWrite, _) => Ok(put_code_write(scene, machine, writer)?),
-        (Cause::Window, _) => report_window(alloc, scene, ended, writer),
+        (Cause::Window, _) => report_window(scene, past, writer),
         _ => Ok(()),
     }
 }
 
-// Writes why a run reached its limit: an RTS that pulled too much or too little, calls in a circle, or a loop.
-fn report_limit<A: Allocator + Copy, W: Output>(
-    alloc: A,
+// Writes which RTS pulled too much or too little, or which calls are in a circle. Returns whether the examined steps show one.
+fn report_stack<A: Allocator + Copy, W: Output>(
     scene: &Scene<A>,
-    ended: &Ended<'_, A>,
+    past: &Past<'_, '_, A>,
+    writer: &mut W,
+) -> Result<bool, RunFault> {
+    if let Some(astray) = returns_of(past)?.astray {
+        put_return(scene, &astray, writer)?;
+        return Ok(true);
+    }
+    report_circle(scene, past, writer)
+}
+
+// Returns whether steps called routines or returned from them.
+fn has_calls(steps: &[Step]) -> bool {
+    steps
+        .iter()
+        .any(|it| it.is(Mnemonic::Jsr) || it.is(Mnemonic::Rts))
+}
+
+// Writes why a run reached its limit: an RTS that pulled too much or too little, calls in a circle, or a loop. A loop without calls is
+// explained by its own steps.
+fn report_limit<A: Allocator + Copy, W: Output>(
+    scene: &Scene<A>,
+    past: &mut Past<'_, '_, A>,
     writer: &mut W,
 ) -> Result<(), RunFault> {
-    if let Some(astray) = returns_of(alloc, ended)?.astray {
-        return Ok(put_return(scene, &astray, writer)?);
+    if has_calls(past.steps()) {
+        if report_stack(scene, past, writer)? {
+            return Ok(());
+        }
+        if past.look_farther()? && report_stack(scene, past, writer)? {
+            return Ok(());
+        }
     }
-    if report_circle(alloc, scene, ended, writer)? {
-        return Ok(());
-    }
-    report_round(alloc, scene, ended, writer)
+    report_round(scene, past, writer)
 }
 
 // Writes why a run stopped.
@@ -171,15 +194,16 @@ fn explain<A: Allocator + Copy, W: Output>(
         return Ok(());
     }
     put_stop(scene, ended.machine().regs().pc, cause, writer)?;
+    let mut past = Past::of(alloc, ended)?;
     if matches!(cause, Cause::Limit) {
-        return report_limit(alloc, scene, ended, writer);
+        return report_limit(scene, &mut past, writer);
     }
-    put_way(alloc, scene, ended, writer)
+    report_way(scene, &mut past, writer)
 }
 
 /// Writes why the run of a source stopped, in lines that begin with `a2lab: `: the cause, what is at PC, the last line that ran, and
 /// how to fix it. If an RTS, a hook, the window or a block is wrong, it says which lines pushed, pulled or stored the bytes, as far as
-/// the last 100,000 steps show. At the limit it says which lines call one another in a circle, or which loop the last 4,096 steps were
+/// the last 65,536 steps show. At the limit it says which lines call one another in a circle, or which loop the last 4,096 steps were
 /// in, and how its branches did not leave it. Nothing is written of a run that ends by BRK, or by RETURNED, unless an RTS ended the
 /// program in a routine into which it ran on. `ended` is a run of this source. Fails if a write fails, or if there is not enough
 /// memory. This project's profile.

@@ -1,6 +1,6 @@
 //! Which lines moved the window or the cursor off the screen, and blocks that are off it.
 
-use crate::replay::{Replay, WATCHED};
+use crate::past::Past;
 use a2_bus::locations::{CH, CV, H2, V2, WNDBTM, WNDLFT, WNDTOP, WNDWDTH};
 use a2_machine::Machine;
 use a2_run::RunFault;
@@ -8,8 +8,7 @@ use a2_services::{Needs, row_of, service_at};
 use a2_stream::{Output, WriteFault, put, put_all};
 use a2_symbols::{Scene, put_place, statement_at};
 use a2_text::{decimal, hex_pair};
-use a2_timed_keys::Ended;
-use std::alloc::{AllocError, Allocator};
+use std::alloc::Allocator;
 
 // The columns and the rows of the screen.
 const COLUMNS: u16 = 40;
@@ -55,12 +54,12 @@ static LOCATIONS: [Location; 6] = [
 ];
 
 /// Returns the byte of RAM at an address.
-pub(crate) fn byte_at<A: Allocator>(machine: &Machine<A>, address: u16) -> u8 {
+pub(crate) fn byte_at<A: Allocator + Copy>(machine: &Machine<A>, address: u16) -> u8 {
     machine.peek(address).unwrap_or(0)
 }
 
 // Returns whether a location holds a value that it must not hold.
-fn is_amiss<A: Allocator>(machine: &Machine<A>, address: u16) -> bool {
+fn is_amiss<A: Allocator + Copy>(machine: &Machine<A>, address: u16) -> bool {
     let left = u16::from(byte_at(machine, WNDLFT));
     let width = u16::from(byte_at(machine, WNDWDTH));
     let top = u16::from(byte_at(machine, WNDTOP));
@@ -77,45 +76,8 @@ fn is_amiss<A: Allocator>(machine: &Machine<A>, address: u16) -> bool {
     }
 }
 
-// The byte at a location, and where the last step began that changed it, if that was seen.
-#[derive(Clone, Copy)]
-struct Seen {
-    byte: u8,
-    changed_by: Option<u16>,
-}
-
-// Returns what is at the locations at the end of a run, and which of its last 100,000 steps changed that.
-fn changes_of<A: Allocator + Copy>(
-    alloc: A,
-    ended: &Ended<'_, A>,
-) -> Result<[Seen; 6], AllocError> {
-    let mut replay = Replay::of(alloc, ended, WATCHED)?;
-    let mut all = [Seen {
-        byte: 0,
-        changed_by: None,
-    }; 6];
-    for (seen, location) in all.iter_mut().zip(&LOCATIONS) {
-        seen.byte = byte_at(replay.machine(), location.address);
-    }
-    for _ in 0..WATCHED {
-        let Some(step) = replay.make() else {
-            return Ok(all);
-        };
-        for (seen, location) in all.iter_mut().zip(&LOCATIONS) {
-            let byte = byte_at(replay.machine(), location.address);
-            if byte != seen.byte {
-                *seen = Seen {
-                    byte,
-                    changed_by: Some(step.regs.pc),
-                };
-            }
-        }
-    }
-    Ok(all)
-}
-
 // Writes which line stored a byte at a location, and what is allowed there.
-fn put_change<A: Allocator, W: Output>(
+fn put_change<A: Allocator + Copy, W: Output>(
     scene: &Scene<A>,
     pc: u16,
     byte: u8,
@@ -161,7 +123,7 @@ fn put_bound<W: Output>(
 }
 
 // Writes which values of a service for blocks are off the screen.
-fn put_blocks<A: Allocator, W: Output>(
+fn put_blocks<A: Allocator + Copy, W: Output>(
     machine: &Machine<A>,
     needs: Needs,
     writer: &mut W,
@@ -178,29 +140,51 @@ fn put_blocks<A: Allocator, W: Output>(
     }
 }
 
-// Writes which lines of the source last stored values that the window and the cursor must not have, at the end of a run, as far as
-// its last 100,000 steps show.
-fn report_stores<A: Allocator + Copy, W: Output>(
-    alloc: A,
+// Returns the line of the source that stored what a location holds at the end of a run, if it must not hold that.
+fn stored_by<A: Allocator + Copy>(
     scene: &Scene<A>,
-    ended: &Ended<'_, A>,
+    past: &Past<'_, '_, A>,
+    address: u16,
+) -> Option<u16> {
+    let machine = past.ended().machine();
+    if !is_amiss(machine, address) {
+        return None;
+    }
+    let step = past.last_store(address)?;
+    // A service may have stored another byte since then.
+    if step.store?.byte != byte_at(machine, address) {
+        return None;
+    }
+    statement_at(scene.program.statements(), step.regs.pc)?;
+    Some(step.regs.pc)
+}
+
+// Writes which lines of the source last stored values that the window and the cursor must not have, at the end of a run, as far as
+// the examined steps show. Returns whether there are any.
+fn put_stores<A: Allocator + Copy, W: Output>(
+    scene: &Scene<A>,
+    past: &Past<'_, '_, A>,
     writer: &mut W,
-) -> Result<(), RunFault> {
-    let machine = ended.machine();
-    let changes = changes_of(alloc, ended)?;
+) -> Result<bool, WriteFault> {
     let mut is_reported = false;
-    for (seen, location) in changes.iter().zip(&LOCATIONS) {
-        if !is_amiss(machine, location.address) {
-            continue;
-        }
-        let Some(pc) = seen.changed_by else {
-            continue;
-        };
-        if statement_at(scene.program.statements(), pc).is_some() {
-            put_change(scene, pc, seen.byte, location, writer)?;
+    for location in &LOCATIONS {
+        if let Some(pc) = stored_by(scene, past, location.address) {
+            let byte = byte_at(past.ended().machine(), location.address);
+            put_change(scene, pc, byte, location, writer)?;
             is_reported = true;
         }
     }
+    Ok(is_reported)
+}
+
+// Writes which lines of the source last stored values that the window and the cursor must not have, and where to store instead.
+fn report_stores<A: Allocator + Copy, W: Output>(
+    scene: &Scene<A>,
+    past: &mut Past<'_, '_, A>,
+    writer: &mut W,
+) -> Result<(), RunFault> {
+    let is_reported = put_stores(scene, past, writer)?
+        || (past.look_farther()? && put_stores(scene, past, writer)?);
     if is_reported {
         put(
             b"a2lab: a program can safely keep its own bytes below $20\n",
@@ -213,12 +197,11 @@ fn report_stores<A: Allocator + Copy, W: Output>(
 /// Writes which values the service at PC must not have, at the end of a run: of the window and the cursor, with the lines of the source
 /// that stored them, or of blocks.
 pub(crate) fn report_window<A: Allocator + Copy, W: Output>(
-    alloc: A,
     scene: &Scene<A>,
-    ended: &Ended<'_, A>,
+    past: &mut Past<'_, '_, A>,
     writer: &mut W,
 ) -> Result<(), RunFault> {
-    let machine = ended.machine();
+    let machine = past.ended().machine();
     let Some(service) = service_at(machine.regs().pc) else {
         return Ok(());
     };
@@ -226,6 +209,6 @@ pub(crate) fn report_window<A: Allocator + Copy, W: Output>(
         Needs::Block | Needs::Across | Needs::Down => {
             Ok(put_blocks(machine, row_of(service).needs, writer)?)
         }
-        _ => report_stores(alloc, scene, ended, writer),
+        _ => report_stores(scene, past, writer),
     }
 }

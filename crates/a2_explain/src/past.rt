@@ -1,0 +1,144 @@
+//! The last steps of a run, which are run again once.
+
+use crate::recorder::Recorder;
+use crate::step::Step;
+use a2_machine::Machine;
+use a2_timed_keys::{Ended, Typed};
+use std::alloc::{AllocError, Allocator};
+
+/// How many steps before the stop are examined first.
+pub(crate) const NEAR: u32 = 4_096;
+
+// How many are examined if these do not show what caused the stop.
+const FAR: u32 = 65_536;
+
+/// The last steps of a run, which are run again once for all questions about them.
+#[derive(Drop)]
+pub(crate) struct Past<'e, 'a, A: Allocator> {
+    alloc: A,
+    ended: &'e Ended<'a, A>,
+    steps: Vec<Step, A>,
+}
+
+// Returns a number of steps in the type in which machines take it. No run has more of them than fit.
+fn as_limit(steps: u64) -> u32 {
+    u32::try_from(steps).unwrap_or(u32::MAX)
+}
+
+// Returns the greatest number of steps, more than `made` and at most `end`, before which no key is typed; `end` at the end.
+fn next_due(typed: &[Typed], made: u64, end: u64) -> u64 {
+    let mut due = end;
+    for stroke in typed {
+        if made < stroke.steps && stroke.steps < due {
+            due = stroke.steps;
+        }
+    }
+    due
+}
+
+// Runs a machine to the end of its run, and records its steps.
+fn run_on<A: Allocator + Copy>(
+    ended: &Ended<'_, A>,
+    machine: &mut Machine<A>,
+    recorder: &mut Recorder<A>,
+) {
+    let end = ended.machine().steps();
+    // Each round runs at least one step.
+    for _ in machine.steps()..end {
+        let made = machine.steps();
+        if made >= end {
+            return;
+        }
+        let due = next_due(ended.strokes().as_slice(), made, end);
+        machine.run_observed(as_limit(due.saturating_sub(made)), recorder);
+        // There was room for these keys in the run.
+        let _ = ended.strokes().type_due(machine);
+    }
+}
+
+// Returns the last steps of a run, at most so many. Fails only if there is not enough memory.
+fn last_steps<A: Allocator + Copy>(
+    alloc: A,
+    ended: &Ended<'_, A>,
+    count: u32,
+) -> Result<Vec<Step, A>, AllocError> {
+    let first = as_limit(ended.machine().steps()).saturating_sub(count);
+    let again = ended.again(alloc, first)?;
+    let mut machine = Machine::for_copies(alloc)?;
+    machine.copy_from(again.machine());
+    let mut recorder = Recorder::of(alloc, &machine, count as usize)?;
+    run_on(ended, &mut machine, &mut recorder);
+    Ok(recorder.into_steps())
+}
+
+impl<'e, 'a, A: Allocator + Copy> Past<'e, 'a, A> {
+    /// Runs the last 4,096 steps of a run again, or a shorter run from its start. Fails only if there is not enough memory.
+    pub(crate) fn of(alloc: A, ended: &'e Ended<'a, A>) -> Result<Past<'e, 'a, A>, AllocError> {
+        Ok(Past {
+            alloc,
+            ended,
+            steps: last_steps(alloc, ended, NEAR)?,
+        })
+    }
+}
+
+impl<'e, 'a, A: Allocator + Copy> Past<'e, 'a, A> {
+    /// Examines the last 65,536 steps. Returns whether there are more of them than before. Fails only if there is not enough memory.
+    pub(crate) fn look_farther(&mut self) -> Result<bool, AllocError> {
+        if self.is_whole() || self.steps.len() > NEAR as usize {
+            return Ok(false);
+        }
+        self.steps = last_steps(self.alloc, self.ended, FAR)?;
+        Ok(true)
+    }
+
+    /// Examines more steps if none of these stored at one of the addresses. Fails only if there is not enough memory.
+    pub(crate) fn look_for_stores(&mut self, addresses: &[u16]) -> Result<(), AllocError> {
+        for address in addresses {
+            if self.last_store(*address).is_some() {
+                return Ok(());
+            }
+        }
+        self.look_farther()?;
+        Ok(())
+    }
+
+    /// Returns the steps that are examined, in their order.
+    pub(crate) fn steps(&self) -> &[Step] {
+        self.steps.as_slice()
+    }
+
+    /// Returns the last of them, if there are so many.
+    pub(crate) fn last(&self, count: usize) -> Option<&[Step]> {
+        let steps = self.steps.as_slice();
+        let first = steps.len().checked_sub(count)?;
+        Some(steps.split_at(first).1)
+    }
+
+    /// Returns whether these are all steps of the run.
+    pub(crate) fn is_whole(&self) -> bool {
+        self.steps.len() as u64 == self.ended.machine().steps()
+    }
+
+    /// Returns the run.
+    pub(crate) fn ended(&self) -> &'e Ended<'a, A> {
+        self.ended
+    }
+
+    /// Returns the allocator for what is found.
+    pub(crate) fn alloc(&self) -> A {
+        self.alloc
+    }
+
+    /// Returns the last step whose instruction stored at an address, unless it pushed there.
+    pub(crate) fn last_store(&self, address: u16) -> Option<Step> {
+        for step in self.steps.iter().rev() {
+            if let Some(store) = step.store {
+                if store.address == address {
+                    return Some(*step);
+                }
+            }
+        }
+        None
+    }
+}

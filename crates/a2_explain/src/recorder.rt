@@ -1,0 +1,126 @@
+//! Records the steps of a run.
+
+use crate::step::{Step, Store};
+use a2_burst::{Observer, StepView};
+use a2_effect::{Regs, stores_operand};
+use a2_hex::RAM_END;
+use a2_machine::Machine;
+use a2_opcode::{Mode, row_of};
+use std::alloc::{AllocError, Allocator};
+use std::marker::Model;
+
+// Returns the byte of RAM at an address, or 0 past its end.
+fn byte_in(ram: &[u8], address: u16) -> u8 {
+    match ram.get(usize::from(address)) {
+        Some(byte) => *byte,
+        None => 0,
+    }
+}
+
+// Returns the word of page 0 at an address.
+fn pointer_in(ram: &[u8], address: u8) -> u16 {
+    let low = byte_in(ram, u16::from(address));
+    let high = byte_in(ram, u16::from(address.wrapping_add(1)));
+    u16::from_le_bytes([low, high])
+}
+
+// Returns the address of the operand of the instruction at PC, if it has one. A guarded run stores into no instruction, so the operand
+// is as it was before the step.
+fn operand_address(mode: Mode, regs: &Regs, ram: &[u8]) -> Option<u16> {
+    let (x, y) = (regs.x, regs.y);
+    let low = byte_in(ram, regs.pc.wrapping_add(1));
+    let word = u16::from_le_bytes([low, byte_in(ram, regs.pc.wrapping_add(2))]);
+    match mode {
+        Mode::ZeroPage => Some(u16::from(low)),
+        Mode::ZeroPageX => Some(u16::from(low.wrapping_add(x))),
+        Mode::ZeroPageY => Some(u16::from(low.wrapping_add(y))),
+        Mode::Absolute => Some(word),
+        Mode::AbsoluteX => Some(word.wrapping_add(u16::from(x))),
+        Mode::AbsoluteY => Some(word.wrapping_add(u16::from(y))),
+        Mode::IndexedIndirect => Some(pointer_in(ram, low.wrapping_add(x))),
+        Mode::IndirectIndexed => Some(pointer_in(ram, low).wrapping_add(u16::from(y))),
+        _ => None,
+    }
+}
+
+// Returns what an instruction with this opcode stored, from the registers before it and RAM after it.
+fn store_of(opcode: u8, regs: &Regs, ram: &[u8]) -> Option<Store> {
+    let row = row_of(opcode)?;
+    if !stores_operand(row.mnemonic) {
+        return None;
+    }
+    let address = operand_address(row.mode, regs, ram)?;
+    if address >= RAM_END {
+        return None;
+    }
+    Some(Store {
+        address,
+        byte: byte_in(ram, address),
+    })
+}
+
+/// An observer that records each step.
+#[derive(Drop)]
+pub(crate) struct Recorder<A: Allocator> {
+    steps: Vec<Step, A>,
+    // How many steps were run before the next one.
+    made: u64,
+    // The registers before the next step.
+    regs: Regs,
+}
+
+// Contracts say nothing of what is recorded.
+impl<A: Allocator> Model for Recorder<A> {
+    ghost Value = { Unit {0} };
+
+    ghost view = { λ _. tt };
+}
+
+impl<A: Allocator + Copy> Recorder<A> {
+    /// Nothing is recorded yet of a machine that runs so many steps. Fails only if there is not enough memory.
+    pub(crate) fn of(
+        alloc: A,
+        machine: &Machine<A>,
+        count: usize,
+    ) -> Result<Recorder<A>, AllocError> {
+        Ok(Recorder {
+            steps: Vec::with_capacity(alloc, count)?,
+            made: machine.steps(),
+            regs: machine.regs(),
+        })
+    }
+
+    /// Returns the recorded steps.
+    pub(crate) fn into_steps(self) -> Vec<Step, A> {
+        let Recorder {
+            steps,
+            made: _,
+            regs: _,
+        } = self;
+        steps
+    }
+}
+
+impl<A: Allocator + Copy> Observer for Recorder<A> {
+    ghost seen = { λ recorder _. recorder };
+
+    #[inline(always)]
+    fn see(&mut self, look: StepView, ram: &[u8]) {
+        let step = Step {
+            before: self.made,
+            regs: self.regs,
+            opcode: look.opcode,
+            next_s: look.next_s,
+            next_pc: look.next_pc,
+            store: store_of(look.opcode, &self.regs, ram),
+        };
+        self.made = self.made.saturating_add(1);
+        self.regs.pc = look.next_pc;
+        self.regs.a = look.next_a;
+        self.regs.x = look.next_x;
+        self.regs.y = look.next_y;
+        self.regs.s = look.next_s;
+        // There is room for as many steps as are run.
+        let _ = self.steps.push(step);
+    }
+}
