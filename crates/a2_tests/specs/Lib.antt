@@ -1,5 +1,6 @@
 pub mod Settings
 pub mod Lines
+pub mod Cases
 pub mod Rows
 pub mod Requirements
 pub mod Calls

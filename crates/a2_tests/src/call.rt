@@ -47,7 +47,7 @@ fn load_of<'a>(place: &'a [u8]) -> Option<&'a [u8]>
 }
 
 /// Appends pieces.
-pub(crate) fn append<A: Allocator>(
+pub(crate) fn append<A: Allocator + Copy>(
     text: &mut Vec<u8, A>,
     pieces: &[&[u8]],
 ) -> Result<(), AllocError>
@@ -60,7 +60,7 @@ pub(crate) fn append<A: Allocator>(
 }
 
 // Appends the line for a word that loads a register.
-fn append_load<A: Allocator>(text: &mut Vec<u8, A>, word: &[u8]) -> Result<(), AllocError>
+fn append_load<A: Allocator + Copy>(text: &mut Vec<u8, A>, word: &[u8]) -> Result<(), AllocError>
     ensures { OnOk result (text.new.items ≡ text.old.items ++ said.load_lines word.now) }
 {
     match load_of(name_in(word)) {
@@ -70,7 +70,7 @@ fn append_load<A: Allocator>(text: &mut Vec<u8, A>, word: &[u8]) -> Result<(), A
 }
 
 // Appends the lines for a word that stores a byte.
-fn append_store<A: Allocator>(text: &mut Vec<u8, A>, word: &[u8]) -> Result<(), AllocError>
+fn append_store<A: Allocator + Copy>(text: &mut Vec<u8, A>, word: &[u8]) -> Result<(), AllocError>
     ensures { OnOk result (text.new.items ≡ text.old.items ++ said.store_lines word.now) }
 {
     match load_of(name_in(word)) {
@@ -89,7 +89,7 @@ fn append_store<A: Allocator>(text: &mut Vec<u8, A>, word: &[u8]) -> Result<(), 
 }
 
 // Appends the lines that store the byte of a word, or those that load it.
-fn append_setting<A: Allocator>(
+fn append_setting<A: Allocator + Copy>(
     text: &mut Vec<u8, A>,
     word: &[u8],
     stores: bool,
@@ -104,7 +104,7 @@ fn append_setting<A: Allocator>(
 }
 
 // Appends the lines for each word.
-fn append_settings<A: Allocator>(
+fn append_settings<A: Allocator + Copy>(
     text: &mut Vec<u8, A>,
     settings: &[u8],
     stores: bool,
@@ -121,14 +121,14 @@ fn append_settings<A: Allocator>(
 
 // Appends the lines that call a routine and return. After them, the source begins as it would without them.
 #[tactic(auto, unfolding(crate::specs::Calls::call_lines))]
-fn append_call<A: Allocator>(text: &mut Vec<u8, A>, name: &[u8]) -> Result<(), AllocError>
+fn append_call<A: Allocator + Copy>(text: &mut Vec<u8, A>, name: &[u8]) -> Result<(), AllocError>
     ensures { OnOk result (text.new.items ≡ text.old.items ++ said.call_lines name.now) }
 {
     append(text, &[b" JSR ", name, b"\n RTS\n ORG $300\n"])
 }
 
 // Appends a text.
-fn append_text<A: Allocator>(text: &mut Vec<u8, A>, other: &[u8]) -> Result<(), AllocError>
+fn append_text<A: Allocator + Copy>(text: &mut Vec<u8, A>, other: &[u8]) -> Result<(), AllocError>
     ensures { OnOk result (text.new.items ≡ text.old.items ++ other.now) }
 {
     text.extend_from_slice(other)
@@ -136,7 +136,7 @@ fn append_text<A: Allocator>(text: &mut Vec<u8, A>, other: &[u8]) -> Result<(), 
 
 /// Returns the text that runs in a case that calls a routine. It begins at $BF00 with lines that store the bytes, load
 /// the registers, call the routine and return. The source follows.
-pub(crate) fn calling_text<A: Allocator>(
+pub(crate) fn calling_text<A: Allocator + Copy>(
     alloc: A,
     call: Call,
     source: &[u8],

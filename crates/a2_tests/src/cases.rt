@@ -1,6 +1,8 @@
 //! The lines and cases of a WANT file.
 
-ghost use Rattle.std.specs.Prelude.{◌≤◌, length};
+ghost use Rattle.std.specs.Prelude.{◌≡◌, ◌++◌, Some, None, map, IfOk, OnOk, MatchOption};
+ghost use Rattle.std.specs.List.{before_first, list_any, position_or_len};
+ghost use Rattle.a2_tests.specs.Cases as said;
 
 use crate::line::{Line, NumberedLine, numbered_line};
 use a2_machine::Cause;
@@ -15,10 +17,12 @@ pub struct Case<'a, A: Allocator> {
 }
 
 /// Returns the meaning of each line of a WANT file. Fails only if memory runs out.
-pub fn lines_of<'a, A: Allocator>(
+pub fn lines_of<'a, A: Allocator + Copy>(
     alloc: A,
     texts: &[&'a [u8]],
-) -> Result<Vec<NumberedLine<'a>, A>, AllocError> {
+) -> Result<Vec<NumberedLine<'a>, A>, AllocError>
+    ensures { IfOk result (λ lines. said.AreLines 1 (map (λ x. x.now) texts.now) lines.items) }
+{
     let mut lines = Vec::new(alloc);
     for (index, text) in texts.iter().enumerate() {
         lines.push(numbered_line(index + 1, *text))?;
@@ -27,7 +31,9 @@ pub fn lines_of<'a, A: Allocator>(
 }
 
 // Returns the name of the case that a line begins, if it begins one.
-fn case_in<'a>(line: Line<'a>) -> Option<&'a [u8]> {
+fn name_in<'a>(line: Line<'a>) -> Option<&'a [u8]>
+    ensures { MatchOption result (said.name_of line.entry ≡ None) (λ name. said.name_of line.entry ≡ Some name.now) }
+{
     match line {
         Line::Case(name) => Some(name),
         _ => None,
@@ -36,10 +42,10 @@ fn case_in<'a>(line: Line<'a>) -> Option<&'a [u8]> {
 
 // Returns how many lines come before the first line that begins a case.
 fn front_of(lines: &[NumberedLine]) -> usize
-    ensures { result ≤ length lines.now }
+    ensures { result ≡ position_or_len said.begins_case lines.now }
 {
     for (index, asked) in lines.iter().enumerate() {
-        if case_in(asked.line).is_some() {
+        if name_in(asked.line).is_some() {
             return index;
         }
     }
@@ -47,65 +53,66 @@ fn front_of(lines: &[NumberedLine]) -> usize
 }
 
 // Returns the lines before the first line that begins a case.
-fn front<'a, 'b>(lines: &'b [NumberedLine<'a>]) -> &'b [NumberedLine<'a>] {
+fn front<'a, 'b>(lines: &'b [NumberedLine<'a>]) -> &'b [NumberedLine<'a>]
+    ensures { result.now ≡ before_first said.begins_case lines.now }
+{
     &lines[..front_of(lines)]
 }
 
-// The last line that calls a routine, and whether a line says how the run stops.
-#[derive(Clone, Copy)]
-struct Called {
-    number: Option<usize>,
-    has_stop: bool,
-}
-
-// Returns the same for these lines and the lines before them.
-fn called_in(before: Called, lines: &[NumberedLine]) -> Called {
-    let mut called = before;
+// Returns whether a line says how the run stops.
+fn says_stop(lines: &[NumberedLine]) -> bool
+    ensures { result ≡ list_any said.says_stop lines.now }
+{
     for asked in lines {
-        match asked.line {
-            Line::Call(_) => called.number = Some(asked.number),
-            Line::Stop(_) => called.has_stop = true,
-            _ => {}
+        if let Line::Stop(_) = asked.line {
+            return true;
         }
     }
-    called
+    false
 }
 
-// Returns the requirement that the called routine returns, with the number of the line that calls it, unless a line says how the run
-// stops.
-fn return_in<'a>(head: &[NumberedLine], body: &[NumberedLine]) -> Option<NumberedLine<'a>> {
-    let nothing = Called {
-        number: None,
-        has_stop: false,
-    };
-    match called_in(called_in(nothing, head), body) {
-        Called {
-            number: Some(number),
-            has_stop: false,
-        } => Some(NumberedLine {
-            number,
-            line: Line::Stop(Cause::Returned),
-        }),
-        _ => None,
+// Returns the number of the last line that calls a routine.
+fn caller_in(lines: &[NumberedLine]) -> Option<usize>
+    ensures { result ≡ said.caller_from None lines.now }
+{
+    let mut caller = None;
+    for asked in lines {
+        if let Line::Call(_) = asked.line {
+            caller = Some(asked.number);
+        }
     }
+    caller
 }
 
-// Adds the case with this name, whose lines follow those before the first case.
-fn push_case<'a, A: Allocator>(
-    cases: &mut Vec<Case<'a, A>, A>,
+// Adds the requirement that a called routine returns, at the front, unless a line says how the run stops.
+fn require_return<'a, A: Allocator + Copy>(
+    lines: &mut Vec<NumberedLine<'a>, A>,
+) -> Result<(), AllocError>
+    ensures { OnOk result (lines.new.items ≡ said.returning lines.old.items ++ lines.old.items) }
+{
+    if says_stop(lines.as_slice()) {
+        return Ok(());
+    }
+    if let Some(number) = caller_in(lines.as_slice()) {
+        let line = Line::Stop(Cause::Returned);
+        lines.insert(0, NumberedLine { number, line })?;
+    }
+    Ok(())
+}
+
+// Returns the case with this name, whose lines follow those before the first case.
+fn case_with<'a, A: Allocator + Copy>(
     alloc: A,
     name: &'a [u8],
     head: &[NumberedLine<'a>],
     body: &[NumberedLine<'a>],
-) -> Result<(), AllocError> {
-    let mut lines = Vec::new(alloc);
-    if let Some(returns) = return_in(head, body) {
-        lines.push(returns)?;
-    }
-    lines.extend_from_slice(head)?;
+) -> Result<Case<'a, A>, AllocError>
+    ensures { IfOk result (λ case. said.case_of case ≡ said.case_with name.now (head.now ++ body.now)) }
+{
+    let mut lines = Vec::from_slice(alloc, head)?;
     lines.extend_from_slice(body)?;
-    cases.push(Case { name, lines })?;
-    Ok(())
+    require_return(&mut lines)?;
+    Ok(Case { name, lines })
 }
 
 /// Returns the cases of some lines. Each case begins with a line `case NAME` and ends before the next one. The lines
@@ -114,17 +121,20 @@ fn push_case<'a, A: Allocator>(
 pub fn cases_of<'a, A: Allocator + Copy>(
     alloc: A,
     lines: &[NumberedLine<'a>],
-) -> Result<Vec<Case<'a, A>, A>, AllocError> {
-    let (head, rest) = lines.split_at(front_of(lines));
+) -> Result<Vec<Case<'a, A>, A>, AllocError>
+    ensures { IfOk result (λ cases. map said.case_of cases.items ≡ said.cases_in lines.now) }
+{
+    let head = front(lines);
     let mut cases = Vec::new(alloc);
-    if rest.is_empty() {
-        push_case(&mut cases, alloc, b"", head, &[])?;
-    }
-    for (index, asked) in rest.iter().enumerate() {
-        if let Some(name) = case_in(asked.line) {
-            let body = front(&rest[index + 1..]);
-            push_case(&mut cases, alloc, name, head, body)?;
+    let mut rest = lines;
+    while let [asked, following @ ..] = rest {
+        if let Some(name) = name_in(asked.line) {
+            cases.push(case_with(alloc, name, head, front(following))?)?;
         }
+        rest = following;
+    }
+    if cases.is_empty() {
+        cases.push(case_with(alloc, b"", lines, &[])?)?;
     }
     Ok(cases)
 }

@@ -44,13 +44,13 @@ fn first_different_row<'a, 'b>(
 }
 
 // Reports that the screen has only this many rows, although another one is expected.
-fn put_fewer<A: Allocator>(text: &mut Vec<u8, A>, rows: usize) -> Result<(), AllocError> {
+fn put_fewer<A: Allocator + Copy>(text: &mut Vec<u8, A>, rows: usize) -> Result<(), AllocError> {
     let rows = decimal(rows as u64);
     append(text, &[b"the screen has only ", rows.as_slice(), b" rows"])
 }
 
 // Reports the first row of the screen that is not the expected one.
-fn report_rows<A: Allocator>(
+fn report_rows<A: Allocator + Copy>(
     text: &mut Vec<u8, A>,
     lines: &[NumberedLine],
     shown: &[&[u8]],
@@ -62,7 +62,7 @@ fn report_rows<A: Allocator>(
 }
 
 // Reports a row of the screen that is not the expected one.
-fn report_row<A: Allocator>(
+fn report_row<A: Allocator + Copy>(
     text: &mut Vec<u8, A>,
     number: usize,
     wanted: &[u8],
@@ -84,7 +84,7 @@ fn report_row<A: Allocator>(
 }
 
 // Reports the row with a given number, which is not the expected one.
-fn report_row_at<A: Allocator>(
+fn report_row_at<A: Allocator + Copy>(
     text: &mut Vec<u8, A>,
     number: u16,
     wanted: &[u8],
@@ -97,7 +97,10 @@ fn report_row_at<A: Allocator>(
 }
 
 // Appends two hexadecimal digits, or `no readable byte`.
-fn report_byte<A: Allocator>(text: &mut Vec<u8, A>, byte: Option<u8>) -> Result<(), AllocError> {
+fn report_byte<A: Allocator + Copy>(
+    text: &mut Vec<u8, A>,
+    byte: Option<u8>,
+) -> Result<(), AllocError> {
     match byte {
         Some(byte) => append(text, &[&hex_pair(byte)]),
         None => append(text, &[b"no readable byte"]),
@@ -105,7 +108,7 @@ fn report_byte<A: Allocator>(text: &mut Vec<u8, A>, byte: Option<u8>) -> Result<
 }
 
 // Reports the first byte of memory that is not the expected one.
-fn report_memory<A: Allocator>(
+fn report_memory<A: Allocator + Copy>(
     text: &mut Vec<u8, A>,
     place: &str,
     bytes: &[u8],
@@ -128,7 +131,7 @@ fn report_memory<A: Allocator>(
 }
 
 // Reports the first register that does not have the expected value.
-fn report_registers<A: Allocator>(
+fn report_registers<A: Allocator + Copy>(
     text: &mut Vec<u8, A>,
     words: &[u8],
     ending: &Ending<A>,
@@ -141,7 +144,7 @@ fn report_registers<A: Allocator>(
 }
 
 // Reports that a number is above the maximum.
-fn report_maximum<A: Allocator>(
+fn report_maximum<A: Allocator + Copy>(
     text: &mut Vec<u8, A>,
     name: &[u8],
     most: u32,
@@ -162,7 +165,7 @@ fn report_maximum<A: Allocator>(
 }
 
 // Reports where a mnemonic is used, or that it is not used.
-fn report_use<A: Allocator>(
+fn report_use<A: Allocator + Copy>(
     text: &mut Vec<u8, A>,
     mnemonic: Mnemonic,
     ending: &Ending<A>,
@@ -178,7 +181,7 @@ fn report_use<A: Allocator>(
 }
 
 // Reports the difference.
-fn report_difference<A: Allocator>(
+fn report_difference<A: Allocator + Copy>(
     text: &mut Vec<u8, A>,
     lines: &[NumberedLine],
     ending: &Ending<A>,
@@ -212,7 +215,10 @@ fn report_difference<A: Allocator>(
 }
 
 // Reports where a run ended that did not end by itself.
-fn report_end<A: Allocator>(text: &mut Vec<u8, A>, ending: &Ending<A>) -> Result<(), AllocError> {
+fn report_end<A: Allocator + Copy>(
+    text: &mut Vec<u8, A>,
+    ending: &Ending<A>,
+) -> Result<(), AllocError> {
     if ending.cause.is_normal_end() {
         return Ok(());
     }

@@ -44,7 +44,7 @@ impl Totals {
     }
 
     /// Counts a solution.
-    pub fn count<A: Allocator>(&mut self, found: &Found<A>) {
+    pub fn count<A: Allocator + Copy>(&mut self, found: &Found<A>) {
         match found {
             Found::Refused(_) => self.refused = self.refused.saturating_add(1),
             Found::Judged(verdicts) => {
@@ -59,7 +59,7 @@ impl Totals {
 }
 
 // Returns how many cases passed.
-fn passed_of<A: Allocator>(verdicts: &[Verdict<A>]) -> usize {
+fn passed_of<A: Allocator + Copy>(verdicts: &[Verdict<A>]) -> usize {
     let mut count: usize = 0;
     for verdict in verdicts {
         if matches!(verdict, Verdict::Passed) {
@@ -140,7 +140,7 @@ struct Outcome<'a> {
 
 impl<'a> Outcome<'a> {
     // Returns the outcome of a case.
-    fn of<A: Allocator>(name: &'a [u8], verdict: &'a Verdict<A>) -> Outcome<'a> {
+    fn of<A: Allocator + Copy>(name: &'a [u8], verdict: &'a Verdict<A>) -> Outcome<'a> {
         Outcome {
             name,
             passed: matches!(verdict, Verdict::Passed),
@@ -155,7 +155,7 @@ pub const NOT_CALLED: &[u8] =
     b"cannot call its routine; the source must define the names in the `call` line";
 
 // Returns the line of the WANT file that a verdict names, or 0.
-fn line_of<A: Allocator>(verdict: &Verdict<A>) -> usize {
+fn line_of<A: Allocator + Copy>(verdict: &Verdict<A>) -> usize {
     match verdict {
         Verdict::Missed(line, _) => *line,
         Verdict::Passed | Verdict::NotCalled => 0,
@@ -163,7 +163,7 @@ fn line_of<A: Allocator>(verdict: &Verdict<A>) -> usize {
 }
 
 // Returns the report of a verdict.
-fn report_of<A: Allocator>(verdict: &Verdict<A>) -> &[u8] {
+fn report_of<A: Allocator + Copy>(verdict: &Verdict<A>) -> &[u8] {
     match verdict {
         Verdict::Passed => b"",
         Verdict::Missed(_, report) => report.as_slice(),
@@ -172,7 +172,7 @@ fn report_of<A: Allocator>(verdict: &Verdict<A>) -> &[u8] {
 }
 
 // Returns the name of the case at an index, or an empty name if there is no such case.
-fn name_at<'a, A: Allocator>(cases: &[Case<'a, A>], index: usize) -> &'a [u8] {
+fn name_at<'a, A: Allocator + Copy>(cases: &[Case<'a, A>], index: usize) -> &'a [u8] {
     match cases.get(index) {
         Some(case) => case.name,
         None => b"",
@@ -190,7 +190,7 @@ enum Reason<'a> {
 }
 
 // Returns the first case that did not pass.
-fn first_failed<'a, 'b, A: Allocator>(
+fn first_failed<'a, 'b, A: Allocator + Copy>(
     cases: &'b [Case<'a, A>],
     verdicts: &'b [Verdict<A>],
 ) -> Reason<'b> {
@@ -204,7 +204,7 @@ fn first_failed<'a, 'b, A: Allocator>(
 }
 
 // Returns why a solution did not pass all its cases.
-fn reason_of<'a, 'b, A: Allocator>(
+fn reason_of<'a, 'b, A: Allocator + Copy>(
     cases: &'b [Case<'a, A>],
     found: &'b Found<'a, A>,
 ) -> Reason<'b> {
@@ -265,7 +265,7 @@ fn put_failed<'a, W: Output>(
 }
 
 // Returns how many cases a solution passed.
-fn passed_in<A: Allocator>(found: &Found<A>) -> usize {
+fn passed_in<A: Allocator + Copy>(found: &Found<A>) -> usize {
     match found {
         Found::Judged(verdicts) => passed_of(*verdicts),
         Found::Refused(_) => 0,
@@ -372,7 +372,7 @@ fn put_object<'a, W: Output>(
 }
 
 // Writes the objects of some cases, separated by commas.
-fn put_objects<A: Allocator, W: Output>(
+fn put_objects<A: Allocator + Copy, W: Output>(
     cases: &[Case<A>],
     verdicts: &[Verdict<A>],
     writer: &mut W,
@@ -387,7 +387,7 @@ fn put_objects<A: Allocator, W: Output>(
 }
 
 // Writes these bytes and the object of a solution.
-fn put_json<'a, A: Allocator, W: Output>(
+fn put_json<'a, A: Allocator + Copy, W: Output>(
     front: &'a [u8],
     name: &'a [u8],
     cases: &[Case<A>],
@@ -461,7 +461,7 @@ fn put_test<W: Output>(outcome: Outcome<'_>, writer: &mut W) -> Result<(), Write
 }
 
 // Writes the test cases of a solution that was judged.
-fn put_tests<A: Allocator, W: Output>(
+fn put_tests<A: Allocator + Copy, W: Output>(
     cases: &[Case<A>],
     verdicts: &[Verdict<A>],
     writer: &mut W,
@@ -473,7 +473,7 @@ fn put_tests<A: Allocator, W: Output>(
 }
 
 // Writes the test cases of a solution that has errors, with the reason.
-fn put_errors<A: Allocator, W: Output>(
+fn put_errors<A: Allocator + Copy, W: Output>(
     cases: &[Case<A>],
     why: &[u8],
     writer: &mut W,
@@ -485,7 +485,7 @@ fn put_errors<A: Allocator, W: Output>(
 }
 
 // Writes the test suite of a solution.
-fn put_suite<A: Allocator, W: Output>(
+fn put_suite<A: Allocator + Copy, W: Output>(
     name: &[u8],
     cases: &[Case<A>],
     found: &Found<A>,
@@ -523,7 +523,7 @@ pub fn put_head<W: Output>(format: Format, writer: &mut W) -> Result<(), WriteFa
 }
 
 /// Writes the result for a solution called `name`. `is_first` says whether it is the first one.
-pub fn put_solution<A: Allocator, W: Output>(
+pub fn put_solution<A: Allocator + Copy, W: Output>(
     format: Format,
     name: &[u8],
     cases: &[Case<A>],

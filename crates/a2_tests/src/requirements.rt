@@ -29,7 +29,7 @@ pub(crate) struct Ending<'a, A: Allocator> {
 }
 
 /// Returns the address of a place: a number after `$`, or a name of the program.
-pub(crate) fn place_of<A: Allocator>(program: &Program<A>, place: &str) -> Option<u16>
+pub(crate) fn place_of<A: Allocator + Copy>(program: &Program<A>, place: &str) -> Option<u16>
     ensures { result ≡ asked.place_of program.now place.now }
 {
     match place.as_bytes() {
@@ -53,7 +53,7 @@ fn is_byte(byte: Option<u8>, wanted: Option<u16>) -> bool
 
 /// Returns the first byte of memory, from an address on, that differs from the expected one: its address, and the word
 /// for the expected byte.
-pub(crate) fn first_different_byte<'a, A: Allocator>(
+pub(crate) fn first_different_byte<'a, A: Allocator + Copy>(
     machine: &Machine<A>,
     address: u16,
     bytes: &'a [u8],
@@ -91,14 +91,14 @@ fn register_value(regs: Regs, name: &[u8]) -> Option<u8>
 }
 
 /// Returns the value of a register of the machine, named by its letter.
-pub(crate) fn register_byte<A: Allocator>(machine: &Machine<A>, name: &[u8]) -> Option<u8>
+pub(crate) fn register_byte<A: Allocator + Copy>(machine: &Machine<A>, name: &[u8]) -> Option<u8>
     ensures { result ≡ asked.register_byte (registers_of machine.now.state.regs) name.now }
 {
     register_value(machine.regs(), name)
 }
 
 // Returns whether the register in a word such as `A=E9` has the value given there.
-fn register_matches<A: Allocator>(machine: &Machine<A>, word: &[u8]) -> bool
+fn register_matches<A: Allocator + Copy>(machine: &Machine<A>, word: &[u8]) -> bool
     ensures { result ≡ asked.register_matches (registers_of machine.now.state.regs) word.now }
 {
     is_byte(
@@ -108,7 +108,7 @@ fn register_matches<A: Allocator>(machine: &Machine<A>, word: &[u8]) -> bool
 }
 
 /// Returns the first word of a text whose register does not have the value given there.
-pub(crate) fn first_different_register<'a, A: Allocator>(
+pub(crate) fn first_different_register<'a, A: Allocator + Copy>(
     machine: &Machine<A>,
     text: &'a [u8],
 ) -> Option<&'a [u8]>
@@ -166,7 +166,7 @@ fn is_cause(cause: Cause, other: Cause) -> bool
 }
 
 // Returns whether these bytes are at a place.
-fn has_bytes<A: Allocator>(ending: &Ending<A>, place: &str, bytes: &[u8]) -> bool
+fn has_bytes<A: Allocator + Copy>(ending: &Ending<A>, place: &str, bytes: &[u8]) -> bool
     ensures { result ≡ asked.has_bytes_at (memory_of ending.now.machine.now.state.bus)
         (asked.place_of ending.now.program.now place.now) bytes.now }
 {
@@ -177,7 +177,7 @@ fn has_bytes<A: Allocator>(ending: &Ending<A>, place: &str, bytes: &[u8]) -> boo
 }
 
 // Returns whether the end of a run meets a line that is about the program or about counts.
-fn is_met_by<A: Allocator>(line: Line, rest: &[NumberedLine], ending: &Ending<A>) -> bool
+fn is_met_by<A: Allocator + Copy>(line: Line, rest: &[NumberedLine], ending: &Ending<A>) -> bool
     requires { map (λ x. x.now) ending.now.rows.now ≡ asked.rows_of (memory_of ending.now.machine.now.state.bus) }
     ensures { (result ≡ true) ↔ Meets line.entry rest.now ending.now.program.now
         (end_at ending.now.machine.now.state ending.now.cause) }
@@ -198,7 +198,7 @@ fn is_met_by<A: Allocator>(line: Line, rest: &[NumberedLine], ending: &Ending<A>
 }
 
 // Returns whether the end of a run meets the first of these lines.
-fn is_met<A: Allocator>(lines: &[NumberedLine], ending: &Ending<A>) -> bool
+fn is_met<A: Allocator + Copy>(lines: &[NumberedLine], ending: &Ending<A>) -> bool
     requires { map (λ x. x.now) ending.now.rows.now ≡ asked.rows_of (memory_of ending.now.machine.now.state.bus) }
     ensures { (result ≡ true) ↔ MeetsFirst lines.now ending.now.program.now
         (end_at ending.now.machine.now.state ending.now.cause) }
@@ -210,7 +210,7 @@ fn is_met<A: Allocator>(lines: &[NumberedLine], ending: &Ending<A>) -> bool
 }
 
 /// Returns the index of the first of these lines that the end of a run does not meet.
-pub(crate) fn first_missed<A: Allocator>(
+pub(crate) fn first_missed<A: Allocator + Copy>(
     lines: &[NumberedLine],
     ending: &Ending<A>,
 ) -> Option<usize>
