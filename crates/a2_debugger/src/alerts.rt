@@ -99,7 +99,10 @@ fn spares(instr: Instr, watches: &[Span]) -> bool
 }
 
 // The instruction encoded by a statement's bytes in the machine's memory.
-fn instruction_in_memory<A: Allocator>(statement: &Statement, machine: &Machine<A>) -> Option<Instr>
+fn instruction_in_memory<A: Allocator + Copy>(
+    statement: &Statement,
+    machine: &Machine<A>,
+) -> Option<Instr>
     ensures { IfSome result (λ instr. alert.IsFetchedAt (world_of_state machine.now.state).memory statement.now instr) }
 {
     let first = usize::from(statement.addr);
@@ -108,7 +111,11 @@ fn instruction_in_memory<A: Allocator>(statement: &Statement, machine: &Machine<
 }
 
 // Whether a statement is an instruction that never stores at a watched byte, and not a service.
-fn is_calm<A: Allocator>(statement: &Statement, machine: &Machine<A>, watches: &[Span]) -> bool
+fn is_calm<A: Allocator + Copy>(
+    statement: &Statement,
+    machine: &Machine<A>,
+    watches: &[Span],
+) -> bool
     ensures { result ≡ true → IsCalmStatement watches.now (world_of_state machine.now.state).memory statement.now }
 {
     if statement.instr.is_none() || service_at(statement.addr).is_some() {
@@ -121,7 +128,7 @@ fn is_calm<A: Allocator>(statement: &Statement, machine: &Machine<A>, watches: &
 }
 
 // Clears the mark at a statement's first byte if this holds for the statement.
-fn calm<A: Allocator>(
+fn calm<A: Allocator + Copy>(
     marks: &mut [bool],
     statement: &Statement,
     machine: &Machine<A>,
@@ -137,7 +144,7 @@ fn calm<A: Allocator>(
 }
 
 // Does the same for each statement.
-fn calm_all<A: Allocator>(
+fn calm_all<A: Allocator + Copy>(
     marks: &mut [bool],
     statements: &[Statement],
     machine: &Machine<A>,
@@ -162,7 +169,7 @@ fn fill(marks: &mut [bool], mark: bool)
 
 // Marks the addresses where a step may change a watched byte, if any bytes are watched: all except those of instructions that
 // never do.
-fn mark_stores<A: Allocator>(
+fn mark_stores<A: Allocator + Copy>(
     marks: &mut [bool],
     free: bool,
     statements: &[Statement],
@@ -192,7 +199,7 @@ fn mark_stops(marks: &mut [bool], breaks: &[Break])
 }
 
 // Returns marks in which no address is marked.
-fn no_marks<A: Allocator>(alloc: A) -> Result<Vec<bool, A>, AllocError>
+fn no_marks<A: Allocator + Copy>(alloc: A) -> Result<Vec<bool, A>, AllocError>
     ensures { IfOk result (λ marks. length marks.items ≡ 65536) }
 {
     vec![in alloc; false; ADDRESSES]
@@ -219,11 +226,11 @@ impl<A: Allocator + Copy> Marks<A> {
     }
 }
 
-impl<A: Allocator> Marks<A> {
+impl<A: Allocator + Copy> Marks<A> {
     /// Marks the addresses of breakpoints and, if bytes are watched, all addresses where a step may change one. The exceptions
     /// are instructions of a guarded program, as found in the machine's memory, that store nothing, or that store only at a
     /// fixed operand address that is not watched.
-    pub fn set<C: Allocator>(
+    pub fn set<C: Allocator + Copy>(
         &mut self,
         free: bool,
         program: &Program<C>,

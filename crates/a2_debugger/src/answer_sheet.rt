@@ -89,7 +89,7 @@ pub(crate) struct Sheet<A: Allocator> {
     is_whole: bool,
 }
 
-impl<A: Allocator> Sheet<A> {
+impl<A: Allocator + Copy> Sheet<A> {
     // Notes whether a part was added.
     fn note(&mut self, part: Result<(), WriteFault>) {
         self.is_whole = self.is_whole && part.is_ok();
@@ -123,12 +123,12 @@ pub(crate) fn one_of(is_first: bool, first: &'static [u8], other: &'static [u8])
 }
 
 /// Returns the byte of RAM at an address, or 0 if there is none.
-pub(crate) fn byte_at<A: Allocator>(machine: &Machine<A>, address: u16) -> u8 {
+pub(crate) fn byte_at<A: Allocator + Copy>(machine: &Machine<A>, address: u16) -> u8 {
     machine.peek(address).unwrap_or(0)
 }
 
 // Prints the source line of an address, if source lines are shown and the address has one.
-fn put_line_at<A: Allocator>(stand: &RunReport<A>, address: u16, sheet: &mut Sheet<A>) {
+fn put_line_at<A: Allocator + Copy>(stand: &RunReport<A>, address: u16, sheet: &mut Sheet<A>) {
     let spot = match stand.detail {
         Detail::Plain => put_address(address, &mut sheet.text),
         _ => put_place(&stand.scene, address, &mut sheet.text),
@@ -137,7 +137,7 @@ fn put_line_at<A: Allocator>(stand: &RunReport<A>, address: u16, sheet: &mut She
 }
 
 // Prints the instruction at an address of RAM, in the form of a listing.
-fn put_instruction<A: Allocator>(machine: &Machine<A>, address: u16, sheet: &mut Sheet<A>) {
+fn put_instruction<A: Allocator + Copy>(machine: &Machine<A>, address: u16, sheet: &mut Sheet<A>) {
     let bytes = [
         byte_at(machine, address),
         byte_at(machine, address.wrapping_add(1)),
@@ -147,7 +147,7 @@ fn put_instruction<A: Allocator>(machine: &Machine<A>, address: u16, sheet: &mut
 }
 
 // Prints the current position: the step, the source line if one is shown, the instruction, and the registers.
-fn put_position<A: Allocator>(stand: &RunReport<A>, sheet: &mut Sheet<A>) {
+fn put_position<A: Allocator + Copy>(stand: &RunReport<A>, sheet: &mut Sheet<A>) {
     let machine = stand.machine;
     let pc = machine.regs().pc;
     let is_ram = machine.peek(pc).is_some();
@@ -165,7 +165,7 @@ fn put_position<A: Allocator>(stand: &RunReport<A>, sheet: &mut Sheet<A>) {
 }
 
 // Prints a stop: the current position, the changes, and the source lines around the position.
-fn put_stop<A: Allocator>(stand: &RunReport<A>, sheet: &mut Sheet<A>) {
+fn put_stop<A: Allocator + Copy>(stand: &RunReport<A>, sheet: &mut Sheet<A>) {
     put_position(stand, sheet);
     put_registers(stand.before.regs(), stand.machine.regs(), sheet);
     put_bytes(stand, sheet);
@@ -178,7 +178,7 @@ fn put_stop<A: Allocator>(stand: &RunReport<A>, sheet: &mut Sheet<A>) {
 }
 
 // Prints why there is no further step.
-fn put_cause<A: Allocator>(cause: Cause, most: u32, sheet: &mut Sheet<A>) {
+fn put_cause<A: Allocator + Copy>(cause: Cause, most: u32, sheet: &mut Sheet<A>) {
     match cause {
         Cause::Limit => sheet.put_all(&[
             b"gave up after ",
@@ -190,7 +190,7 @@ fn put_cause<A: Allocator>(cause: Cause, most: u32, sheet: &mut Sheet<A>) {
 }
 
 // Prints the bytes at these addresses, eight on a line.
-fn put_memory<A: Allocator>(machine: &Machine<A>, span: Span, sheet: &mut Sheet<A>) {
+fn put_memory<A: Allocator + Copy>(machine: &Machine<A>, span: Span, sheet: &mut Sheet<A>) {
     for address in span.first..=span.last {
         if address == span.first || address % 8 == 0 {
             if address != span.first {
@@ -207,7 +207,12 @@ fn put_memory<A: Allocator>(machine: &Machine<A>, span: Span, sheet: &mut Sheet<
 }
 
 // Prints a source line after its number, with an arrow if it is the current one. Its text begins in column 8, a tab stop.
-fn put_source_line<A: Allocator>(number: u16, text: &[u8], is_here: bool, sheet: &mut Sheet<A>) {
+fn put_source_line<A: Allocator + Copy>(
+    number: u16,
+    text: &[u8],
+    is_here: bool,
+    sheet: &mut Sheet<A>,
+) {
     let number = decimal(u64::from(number));
     sheet.put(one_of(is_here, b"> ", b"  "));
     sheet.put(number.as_slice());
@@ -220,7 +225,7 @@ fn put_source_line<A: Allocator>(number: u16, text: &[u8], is_here: bool, sheet:
 
 // Prints the source lines around the current one, at most this many before and after it; none if the position has no source
 // line.
-fn put_lines<A: Allocator>(stand: &RunReport<A>, around: u16, sheet: &mut Sheet<A>) {
+fn put_lines<A: Allocator + Copy>(stand: &RunReport<A>, around: u16, sheet: &mut Sheet<A>) {
     let pc = stand.machine.regs().pc;
     let Some(statement) = statement_at(stand.scene.program.statements(), pc) else {
         return;
@@ -236,7 +241,7 @@ fn put_lines<A: Allocator>(stand: &RunReport<A>, around: u16, sheet: &mut Sheet<
 }
 
 // Prints the source lines around the current one, or a message if there are none.
-fn put_list<A: Allocator>(stand: &RunReport<A>, sheet: &mut Sheet<A>) {
+fn put_list<A: Allocator + Copy>(stand: &RunReport<A>, sheet: &mut Sheet<A>) {
     let pc = stand.machine.regs().pc;
     if statement_at(stand.scene.program.statements(), pc).is_none() {
         sheet.put_all(&[b"no source line at $", &hex_word(pc), b"\n"]);
@@ -266,7 +271,7 @@ fn sign_of(relation: Relation) -> &'static [u8] {
 }
 
 // Prints a condition in the form in which it is typed.
-fn put_condition<A: Allocator>(condition: Condition, sheet: &mut Sheet<A>) {
+fn put_condition<A: Allocator + Copy>(condition: Condition, sheet: &mut Sheet<A>) {
     sheet.put(b" if ");
     match condition.subject {
         Subject::InRegister(register) => sheet.put(letter_of(register)),
@@ -276,7 +281,7 @@ fn put_condition<A: Allocator>(condition: Condition, sheet: &mut Sheet<A>) {
 }
 
 // Prints a breakpoint.
-fn put_break<A: Allocator>(place: Break, sheet: &mut Sheet<A>) {
+fn put_break<A: Allocator + Copy>(place: Break, sheet: &mut Sheet<A>) {
     sheet.put_all(&[b"breakpoint at $", &hex_word(place.address)]);
     if let Some(condition) = place.condition {
         put_condition(condition, sheet);
@@ -284,7 +289,7 @@ fn put_break<A: Allocator>(place: Break, sheet: &mut Sheet<A>) {
 }
 
 // Prints a line with a span of addresses, after a text.
-fn put_span<A: Allocator>(what: &[u8], span: Span, sheet: &mut Sheet<A>) {
+fn put_span<A: Allocator + Copy>(what: &[u8], span: Span, sheet: &mut Sheet<A>) {
     sheet.put_all(&[what, b"$", &hex_word(span.first)]);
     if span.first != span.last {
         sheet.put_all(&[b"..$", &hex_word(span.last)]);
@@ -293,7 +298,7 @@ fn put_span<A: Allocator>(what: &[u8], span: Span, sheet: &mut Sheet<A>) {
 }
 
 // Prints the breakpoints, each with its source line if source lines are shown and it has one, and the watched bytes.
-fn put_stops<A: Allocator>(stand: &RunReport<A>, sheet: &mut Sheet<A>) {
+fn put_stops<A: Allocator + Copy>(stand: &RunReport<A>, sheet: &mut Sheet<A>) {
     if stand.breaks.is_empty() && stand.watches.is_empty() {
         sheet.put(NO_STOPS);
     }
@@ -314,7 +319,7 @@ fn put_stops<A: Allocator>(stand: &RunReport<A>, sheet: &mut Sheet<A>) {
 }
 
 // Prints the current position and the routines that were entered, innermost first.
-fn put_where<A: Allocator>(stand: &RunReport<A>, sheet: &mut Sheet<A>) {
+fn put_where<A: Allocator + Copy>(stand: &RunReport<A>, sheet: &mut Sheet<A>) {
     put_position(stand, sheet);
     for entry in stand.entries.iter().rev() {
         sheet.put(b"called by ");
@@ -324,7 +329,7 @@ fn put_where<A: Allocator>(stand: &RunReport<A>, sheet: &mut Sheet<A>) {
 }
 
 // Prints the value of something in three bases.
-fn put_value<A: Allocator>(name: &[u8], byte: u8, sheet: &mut Sheet<A>) {
+fn put_value<A: Allocator + Copy>(name: &[u8], byte: u8, sheet: &mut Sheet<A>) {
     let mut digits = [b'0'; 8];
     for place in 0..8usize {
         if byte & (0x80 >> place) != 0 {
@@ -344,7 +349,7 @@ fn put_value<A: Allocator>(name: &[u8], byte: u8, sheet: &mut Sheet<A>) {
 }
 
 // Prints an address and the byte there.
-fn put_value_at<A: Allocator>(machine: &Machine<A>, address: u16, sheet: &mut Sheet<A>) {
+fn put_value_at<A: Allocator + Copy>(machine: &Machine<A>, address: u16, sheet: &mut Sheet<A>) {
     sheet.put_all(&[
         b"$",
         &hex_word(address),
@@ -358,13 +363,13 @@ fn put_value_at<A: Allocator>(machine: &Machine<A>, address: u16, sheet: &mut Sh
 }
 
 // Prints PC.
-fn put_counter<A: Allocator>(pc: u16, sheet: &mut Sheet<A>) {
+fn put_counter<A: Allocator + Copy>(pc: u16, sheet: &mut Sheet<A>) {
     let number = decimal(u64::from(pc));
     sheet.put_all(&[b"PC holds $", &hex_word(pc), b" ", number.as_slice(), b"\n"]);
 }
 
 // Prints what a command asks to show.
-fn put_shown<A: Allocator>(stand: &RunReport<A>, show: Show, sheet: &mut Sheet<A>) {
+fn put_shown<A: Allocator + Copy>(stand: &RunReport<A>, show: Show, sheet: &mut Sheet<A>) {
     let machine = stand.machine;
     match show {
         Show::Place => put_where(stand, sheet),
@@ -397,7 +402,7 @@ const NEEDS_SPAN: &[u8] =
     b" needs one place, or two such as $300..$30F, the lower first, at most 256 bytes\n";
 
 // Prints which arguments a command has.
-fn put_form<A: Allocator>(verb: Verb, sheet: &mut Sheet<A>) {
+fn put_form<A: Allocator + Copy>(verb: Verb, sheet: &mut Sheet<A>) {
     match verb {
         Verb::Step => sheet.put_all(&[b"step", TAKES_STEPS]),
         Verb::Back => sheet.put_all(&[b"back", TAKES_STEPS]),
@@ -437,7 +442,7 @@ fn sentence_of(outcome: Outcome) -> &'static [u8] {
 }
 
 // Prints the answer.
-fn put_answer<A: Allocator>(stand: &RunReport<A>, outcome: Outcome, sheet: &mut Sheet<A>) {
+fn put_answer<A: Allocator + Copy>(stand: &RunReport<A>, outcome: Outcome, sheet: &mut Sheet<A>) {
     match outcome {
         Outcome::Moved => put_stop(stand, sheet),
         Outcome::Stopped(cause) => {
@@ -459,7 +464,7 @@ fn put_answer<A: Allocator>(stand: &RunReport<A>, outcome: Outcome, sheet: &mut 
 }
 
 /// Writes the answer to a line.
-pub fn report<A: Allocator, W: Output>(
+pub fn report<A: Allocator + Copy, W: Output>(
     alloc: A,
     stand: &RunReport<A>,
     outcome: Outcome,

@@ -23,14 +23,14 @@ const MOST_WATCHED: usize = 2048;
 const MIXED_ROW: u8 = 20;
 
 // Prints a register if its value changed.
-fn put_change<A: Allocator>(name: &[u8], before: u8, now: u8, sheet: &mut Sheet<A>) {
+fn put_change<A: Allocator + Copy>(name: &[u8], before: u8, now: u8, sheet: &mut Sheet<A>) {
     if before != now {
         sheet.put_all(&[b" ", name, b"=", &hex_pair(before), b"->", &hex_pair(now)]);
     }
 }
 
 // Prints the flags that changed, given the bytes that PHP would push. Bits 5 and 4 of these are always set.
-fn put_flags<A: Allocator>(before: u8, now: u8, sheet: &mut Sheet<A>) {
+fn put_flags<A: Allocator + Copy>(before: u8, now: u8, sheet: &mut Sheet<A>) {
     let mut bit = 0x80u8;
     for letter in b"NV--DIZC" {
         if before & bit != now & bit {
@@ -42,7 +42,7 @@ fn put_flags<A: Allocator>(before: u8, now: u8, sheet: &mut Sheet<A>) {
 }
 
 /// Prints the registers that changed, except PC.
-pub(crate) fn put_registers<A: Allocator>(before: Regs, now: Regs, sheet: &mut Sheet<A>) {
+pub(crate) fn put_registers<A: Allocator + Copy>(before: Regs, now: Regs, sheet: &mut Sheet<A>) {
     let (flags, new_flags) = (before.p.pushed(), now.p.pushed());
     if [before.a, before.x, before.y, flags, before.s] == [now.a, now.x, now.y, new_flags, now.s] {
         return;
@@ -58,7 +58,7 @@ pub(crate) fn put_registers<A: Allocator>(before: Regs, now: Regs, sheet: &mut S
 }
 
 // Prints the old and new value of a byte, after `following` others.
-fn put_byte<A: Allocator>(
+fn put_byte<A: Allocator + Copy>(
     stand: &RunReport<A>,
     address: u16,
     following: usize,
@@ -72,7 +72,11 @@ fn put_byte<A: Allocator>(
 }
 
 // Prints the old and new values of the bytes at these addresses.
-fn put_bytes_at<A: Allocator>(stand: &RunReport<A>, addresses: &[u16], sheet: &mut Sheet<A>) {
+fn put_bytes_at<A: Allocator + Copy>(
+    stand: &RunReport<A>,
+    addresses: &[u16],
+    sheet: &mut Sheet<A>,
+) {
     let mut following = 0usize;
     for address in addresses {
         put_byte(stand, *address, following, sheet);
@@ -85,7 +89,7 @@ fn put_bytes_at<A: Allocator>(stand: &RunReport<A>, addresses: &[u16], sheet: &m
 
 // Whether the change of a byte is reported with the screen. This holds for a character unless its glyph is the same, and not
 // for a byte of hi-res.
-fn is_on_screen<A: Allocator>(stand: &RunReport<A>, address: u16) -> bool {
+fn is_on_screen<A: Allocator + Copy>(stand: &RunReport<A>, address: u16) -> bool {
     let switches = stand.machine.view().switches;
     let Some((page, row, _)) = cell(address) else {
         return false;
@@ -99,14 +103,14 @@ fn is_on_screen<A: Allocator>(stand: &RunReport<A>, address: u16) -> bool {
 }
 
 // Whether an address belongs to the unused part of the stack.
-fn is_free<A: Allocator>(machine: &Machine<A>, address: u16) -> bool {
+fn is_free<A: Allocator + Copy>(machine: &Machine<A>, address: u16) -> bool {
     0x100 <= address && address <= 0x100 + u16::from(machine.regs().s)
 }
 
 /// Prints the watched bytes that changed. Of the other bytes that changed, prints the first few and the number of the rest;
 /// bytes that show on the screen and those in the unused part of the stack are left out. Comparing every byte of RAM takes most
 /// of the time of a stop.
-pub(crate) fn put_bytes<A: Allocator>(stand: &RunReport<A>, sheet: &mut Sheet<A>) {
+pub(crate) fn put_bytes<A: Allocator + Copy>(stand: &RunReport<A>, sheet: &mut Sheet<A>) {
     let mut watched = ArrayVec::<u16, MOST_WATCHED>::new();
     let mut others = ArrayVec::<u16, MOST_CHANGES>::new();
     let mut number = 0usize;
@@ -129,14 +133,14 @@ pub(crate) fn put_bytes<A: Allocator>(stand: &RunReport<A>, sheet: &mut Sheet<A>
 }
 
 // The lines of a machine's screen. There is room for all of them.
-fn screen_of<A: Allocator>(machine: &Machine<A>) -> Gathered {
+fn screen_of<A: Allocator + Copy>(machine: &Machine<A>) -> Gathered {
     let mut screen = Gathered::new();
     let _ = print(&machine.view(), &mut screen);
     screen
 }
 
 /// Prints the lines of the screen that changed, each with its number, counted from 0, and without blanks at its end.
-pub(crate) fn put_screen_changes<A: Allocator>(stand: &RunReport<A>, sheet: &mut Sheet<A>) {
+pub(crate) fn put_screen_changes<A: Allocator + Copy>(stand: &RunReport<A>, sheet: &mut Sheet<A>) {
     let (before, now) = (screen_of(stand.before), screen_of(stand.machine));
     let mut earlier = before.as_slice().split(|c| *c == b'\n');
     let mut number = 0u64;

@@ -29,7 +29,7 @@ pub fn register_of(word: &[u8]) -> Option<Register>
 }
 
 // The subject of a condition: a register, or otherwise the byte at an address.
-fn subject_of<A: Allocator>(program: &Program<A>, word: &[u8]) -> Option<Subject>
+fn subject_of<A: Allocator + Copy>(program: &Program<A>, word: &[u8]) -> Option<Subject>
     ensures { result ≡ written.subject_of program.now word.now }
 {
     match register_of(word) {
@@ -55,7 +55,7 @@ fn relation_of(word: &[u8]) -> Option<Relation>
 }
 
 // The condition given by three words.
-fn condition_of<A: Allocator>(
+fn condition_of<A: Allocator + Copy>(
     program: &Program<A>,
     subject: &[u8],
     relation: &[u8],
@@ -75,7 +75,7 @@ fn condition_of<A: Allocator>(
 }
 
 // The condition given by the words of a text.
-fn condition_in<A: Allocator>(program: &Program<A>, text: &[u8]) -> Option<Condition>
+fn condition_in<A: Allocator + Copy>(program: &Program<A>, text: &[u8]) -> Option<Condition>
     ensures { result ≡ written.condition_in program.now (words text.now) }
 {
     let (subject, following) = first_word(text)?;
@@ -119,7 +119,7 @@ fn plain_break(address: Option<u16>) -> Option<Break>
 
 /// Returns the breakpoint given by the words of a text: a place, optionally followed by `if`, a subject, `=`, `<>`, `<` or `>`,
 /// and a number. Returns `None` if they are not a breakpoint.
-pub fn break_in<A: Allocator>(program: &Program<A>, text: &[u8]) -> Option<Break>
+pub fn break_in<A: Allocator + Copy>(program: &Program<A>, text: &[u8]) -> Option<Break>
     ensures { result ≡ written.break_in program.now (words text.now) }
 {
     let (place, following) = first_word(text)?;

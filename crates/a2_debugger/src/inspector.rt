@@ -180,14 +180,14 @@ fn go_back<A: Allocator + Copy, S: SearchTarget>(history: &mut History<A>, sight
 }
 
 // Stores a copy of the machine before a command.
-fn note<A: Allocator>(before: &mut Machine<A>, history: &History<A>)
+fn note<A: Allocator + Copy>(before: &mut Machine<A>, history: &History<A>)
     ensures { world_of_state before.new.state ≡ here history.now }
 {
     before.copy_from(history.machine());
 }
 
 // Marks the steps that need a check for one of these stops as the run continues.
-fn mark<A: Allocator>(
+fn mark<A: Allocator + Copy>(
     marks: &mut Marks<A>,
     free: bool,
     program: &Program<A>,
@@ -567,7 +567,7 @@ impl<A: Allocator + Copy> Partner for Inspector<'_, A> {
     }
 }
 
-impl<A: Allocator> Inspector<'_, A> {
+impl<A: Allocator + Copy> Inspector<'_, A> {
     /// Leaves source lines out of all later answers, except the answer to `list`, which asks for them.
     pub fn hide_source_lines(&mut self)
         ensures { self.new ≡ self.old }
@@ -577,7 +577,7 @@ impl<A: Allocator> Inspector<'_, A> {
 }
 
 // The state of a run that can be shown beside its answers.
-impl<'a, A: Allocator> Inspector<'a, A> {
+impl<'a, A: Allocator + Copy> Inspector<'a, A> {
     /// Returns the machine at the current position.
     pub fn machine(&self) -> &Machine<A>
         ensures { world_of_state result.now.state ≡ here self.now.track }

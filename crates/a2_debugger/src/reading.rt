@@ -29,14 +29,14 @@ fn count_in(text: &[u8]) -> Option<u16>
 }
 
 // The address given by the only word of a text.
-fn place_in<A: Allocator>(program: &Program<A>, text: &[u8]) -> Option<u16>
+fn place_in<A: Allocator + Copy>(program: &Program<A>, text: &[u8]) -> Option<u16>
     ensures { result ≡ place_of_words program.now (words text.now) }
 {
     place_of(program, only_word(text)?)
 }
 
 // The addresses to watch, given by the only word of a text.
-fn span_in<A: Allocator>(program: &Program<A>, text: &[u8]) -> Option<Span>
+fn span_in<A: Allocator + Copy>(program: &Program<A>, text: &[u8]) -> Option<Span>
     ensures { result ≡ span_of_words program.now (words text.now) }
 {
     watchable(span_of(program, only_word(text)?))
@@ -55,7 +55,7 @@ fn keys_in(rest: &[u8]) -> Option<Keys>
 }
 
 // The value to show: PC, another register, or the byte at an address.
-fn value_in<A: Allocator>(program: &Program<A>, rest: &[u8]) -> Option<Show> {
+fn value_in<A: Allocator + Copy>(program: &Program<A>, rest: &[u8]) -> Option<Show> {
     let word = only_word(rest)?;
     if word.eq_ignore_ascii_case(b"PC") {
         return Some(Show::Counter);
@@ -67,7 +67,7 @@ fn value_in<A: Allocator>(program: &Program<A>, rest: &[u8]) -> Option<Show> {
 }
 
 // The bytes to show.
-fn bytes_in<A: Allocator>(program: &Program<A>, rest: &[u8]) -> Option<Show> {
+fn bytes_in<A: Allocator + Copy>(program: &Program<A>, rest: &[u8]) -> Option<Show> {
     Some(Show::Memory(span_of(program, only_word(rest)?)?))
 }
 
@@ -82,7 +82,7 @@ fn alone(order: InspectorCommand, rest: &[u8]) -> Option<InspectorCommand>
 }
 
 /// Returns the command given by a verb and the text after it, or `None` if the text is not valid.
-pub fn order_of<A: Allocator>(
+pub fn order_of<A: Allocator + Copy>(
     program: &Program<A>,
     verb: Verb,
     rest: &[u8],

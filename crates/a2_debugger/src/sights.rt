@@ -19,7 +19,7 @@ impl SearchTarget for At {
 
     ghost is_found_in = { λ at world. world.registers.pc == at.address };
 
-    fn is_found_in<A: Allocator>(&self, machine: &Machine<A>) -> bool {
+    fn is_found_in<A: Allocator + Copy>(&self, machine: &Machine<A>) -> bool {
         machine.regs().pc == self.address
     }
 }
@@ -43,13 +43,13 @@ pub struct Stops<'a, B: Allocator> {
     pub before: &'a Machine<B>,
 }
 
-impl<B: Allocator> SearchTarget for Stops<'_, B> {
+impl<B: Allocator + Copy> SearchTarget for Stops<'_, B> {
     ghost use Rattle.a2_machine.specs.State.{world_of_state};
     ghost use Rattle.a2_debugger.specs.Stops.{is_stop};
 
     ghost is_found_in = { λ stops world. is_stop stops.breaks.now stops.watches.now (world_of_state stops.before.now.state) world };
 
-    fn is_found_in<A: Allocator>(&self, machine: &Machine<A>) -> bool {
+    fn is_found_in<A: Allocator + Copy>(&self, machine: &Machine<A>) -> bool {
         is_at_break(self.breaks, &Moment::of(machine))
             || are_changed(self.watches, ram_of(self.before), ram_of(machine))
     }
@@ -63,7 +63,7 @@ pub struct Alarm<'a, B: Allocator> {
     pub stops: Stops<'a, B>,
 }
 
-impl<B: Allocator> Alarm<'_, B> {
+impl<B: Allocator + Copy> Alarm<'_, B> {
     ghost use Rattle.std.specs.Prelude.{◌≡◌, ◌&&◌, slice_get};
     ghost use Rattle.std.specs.List.{list_any};
     ghost use Rattle.a2_bus.specs.Memory.{peek};
@@ -93,7 +93,7 @@ impl<B: Allocator> Alarm<'_, B> {
     }
 }
 
-impl<B: Allocator> Lookout for Alarm<'_, B> {
+impl<B: Allocator + Copy> Lookout for Alarm<'_, B> {
     ghost use Rattle.a2_machine.specs.State.{world_of_state};
     ghost use Rattle.a2_debugger.specs.Alerts.{alarms as alarms_of};
 
@@ -113,7 +113,7 @@ pub struct Left<'a, B: Allocator> {
     pub alarm: Alarm<'a, B>,
 }
 
-impl<B: Allocator> SearchTarget for Left<'_, B> {
+impl<B: Allocator + Copy> SearchTarget for Left<'_, B> {
     ghost use Rattle.a2_machine.specs.State.{world_of_state};
     ghost use Rattle.a2_debugger.specs.Stops.{is_stop};
     ghost use Rattle.a2_debugger.specs.Inspections.{is_left};
@@ -121,12 +121,12 @@ impl<B: Allocator> SearchTarget for Left<'_, B> {
     ghost is_found_in = { λ left world. is_left left.s (is_stop left.alarm.stops.breaks.now left.alarm.stops.watches.now
         (world_of_state left.alarm.stops.before.now.state)) world };
 
-    fn is_found_in<A: Allocator>(&self, machine: &Machine<A>) -> bool {
+    fn is_found_in<A: Allocator + Copy>(&self, machine: &Machine<A>) -> bool {
         machine.regs().s >= self.s || self.alarm.stops.is_found_in(machine)
     }
 }
 
-impl<B: Allocator> Lookout for Left<'_, B> {
+impl<B: Allocator + Copy> Lookout for Left<'_, B> {
     ghost use Rattle.std.specs.Prelude.{◌||◌, nat_le};
     ghost use Rattle.a2_machine.specs.State.{world_of_state};
     ghost use Rattle.a2_debugger.specs.Alerts.{alarms as alarms_of};
@@ -147,13 +147,13 @@ pub struct Changed<'a, B: Allocator> {
     pub before: &'a Machine<B>,
 }
 
-impl<B: Allocator> SearchTarget for Changed<'_, B> {
+impl<B: Allocator + Copy> SearchTarget for Changed<'_, B> {
     ghost use Rattle.a2_machine.specs.State.{world_of_state};
     ghost use Rattle.a2_debugger.specs.Stops.{is_changed_in as is_changed_in_of};
 
     ghost is_found_in = { λ changed world. is_changed_in_of (world_of_state changed.before.now.state) world changed.span };
 
-    fn is_found_in<A: Allocator>(&self, machine: &Machine<A>) -> bool {
+    fn is_found_in<A: Allocator + Copy>(&self, machine: &Machine<A>) -> bool {
         is_changed_in(&self.span, ram_of(self.before), ram_of(machine))
     }
 }

@@ -75,7 +75,7 @@ pub struct Moment<'a> {
 
 impl<'a> Moment<'a> {
     /// Returns the state of a machine.
-    pub fn of<A: Allocator>(machine: &'a Machine<A>) -> Moment<'a>
+    pub fn of<A: Allocator + Copy>(machine: &'a Machine<A>) -> Moment<'a>
         ensures { moment_of_declared result ≡ stop.moment_of (world_of_state machine.now.state) }
     {
         let regs = machine.regs();
@@ -108,7 +108,7 @@ impl<'a> Moment<'a> {
 }
 
 /// Returns a machine's RAM.
-pub fn ram_of<A: Allocator>(machine: &Machine<A>) -> &[u8]
+pub fn ram_of<A: Allocator + Copy>(machine: &Machine<A>) -> &[u8]
     ensures { slice_get result.now ≡ peek (world_of_state machine.now.state).memory }
 {
     machine.space().ram()

@@ -8,17 +8,15 @@ use a2_manual::{manual, near, topic};
 use a2_play::Clock;
 use a2_run::RunFault;
 use a2_stream::{Input, Output, put};
-use a2lab_commands::options::REPLAY;
 use a2lab_commands::{
     CommandArgs, CommandRow, Host, Message, Refusal, Terminal, Terminals, Tool, Value, after_first,
     command_named, nearest_command, put_page, put_use, report, report_arguments, report_fault,
     terminal_in,
 };
-use a2lab_reports::{
-    check_of, film_of, fmt_of, import_of, list_of, profile_of, promise_of, run_of, test_of,
-    trace_of,
-};
-use a2lab_sessions::{debug_of, mon_of, play_of, replay_of};
+use a2lab_promises::promise_of;
+use a2lab_reports::{film_of, profile_of, run_of, test_of, trace_of};
+use a2lab_sessions::{debug_of, mon_of, play_of};
+use a2lab_sources::{check_of, fmt_of, import_of, list_of};
 use std::alloc::Global;
 
 // Reports an unknown command and which one may be meant, and returns the exit status.
@@ -80,19 +78,6 @@ fn help<'a, S, D, C, R, W: Output, E: Output>(
     Ok(0)
 }
 
-// Runs a source, or a recorded session if the arguments name one, and returns the exit status.
-fn run<'a, S: Shelf, D: Desk, C, R: Input, W: Output, E: Output>(
-    given: &CommandArgs<'_, 'a>,
-    host: &mut Host<S, D, C, R, W, E>,
-) -> Result<u8, Refusal<'a>>
-    ensures { IfOk result (λ status. status ≤ 6) }
-{
-    match given.arguments.text(&REPLAY) {
-        Some(record) => replay_of(record, given.arguments, host),
-        None => run_of(given, host),
-    }
-}
-
 // Runs a command, and returns its exit status.
 fn act<'a, S: Shelf, D: Desk, C: Clock, R: Input, W: Output, E: Output>(
     tool: Tool,
@@ -113,7 +98,7 @@ fn act<'a, S: Shelf, D: Desk, C: Clock, R: Input, W: Output, E: Output>(
         Tool::Import => import_of(given, host),
         Tool::Debug => debug_of(given, host),
         Tool::Film => film_of(given, host),
-        Tool::Run => run(given, host),
+        Tool::Run => run_of(given, host),
         Tool::Trace => trace_of(given, host),
         Tool::Profile => profile_of(given, host),
     }

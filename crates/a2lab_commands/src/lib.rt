@@ -19,6 +19,7 @@ mod naming;
 pub mod options;
 mod refusal;
 mod terminals;
+mod timed;
 mod wrapping;
 
 pub use asked::{CommandArgs, FileRunArgs, after_first, keys_in, run_args};
@@ -36,3 +37,7 @@ pub use named::is_input;
 pub use naming::nearest_command;
 pub use refusal::Refusal;
 pub use terminals::{Terminal, Terminals, colours_named, terminal_in};
+pub use timed::{
+    Recording, TimedRunArgs, check_recording, ended_of, first_named, record_in, report_untyped,
+    strokes_of, timed_run_args, typed_refusal,
+};

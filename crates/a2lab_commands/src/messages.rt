@@ -3,7 +3,7 @@
 use a2_stream::{Output, WriteFault, put};
 use a2_text::decimal;
 
-/// A message on standard error. Messages that begin with one argument, such as a command, have it as their first value.
+/// A message on standard error. If a message begins with an argument, such as a command, this is its first value.
 #[derive(Clone, Copy)]
 pub enum Message {
     NotUtf8,
@@ -23,7 +23,6 @@ pub enum Message {
     KeysAtKeys,
     KeysAtFull,
     KeysAtUntyped,
-    KeysAtWithLast,
     RecordLine,
     RecordOfAnotherSource,
     ReplayWithOption,
@@ -67,36 +66,34 @@ fn sentence(message: Message) -> &'static str {
         Message::BadKeys =>
             "@: --keys @: expected at most 4096 keys: the characters from space to ~, \\r for RETURN, \\b and \\f for the arrows, \\x for Ctrl-X, \\\\ for \\",
         Message::UnknownTopic =>
-            "help: unknown topic @; topics are commands, errors, causes of a stop, operations and services",
+            "help: unknown topic @; topics are commands, errors, causes of a stop, mnemonics, services and locations",
         Message::UnknownTopicNear => "help: unknown topic @; did you mean @?",
         Message::CannotOpen => "cannot open @",
         Message::CannotRead => "@: cannot read @",
         Message::NeedsFile =>
             "@: needs a file, because standard input is for what you type (a2lab help @)",
         Message::UnknownPlace =>
-            "@ @: unknown place; write $300, a label, NAME+2, or two of these with .. between them, the lower one first",
-        Message::PartOutsideRam => "run: --mem @: not all of this is in RAM, which ends at $BFFF",
+            "@ @: unknown place; write $300, a name such as LOOP, LOOP+2, a line such as 12:, or two of these with .. between them, the lower one first",
+        Message::PartOutsideRam => "run: --mem @: expected places in RAM, which ends at $BFFF",
         Message::ImageOverwrites => "run: the image would overwrite @; give --save another name",
         Message::KeysAtForm =>
-            "run: --keys-at @: expected a step from 0 to 100000000, a colon and keys, such as 1200:HI\\r",
+            "@: --keys-at @: expected a number of steps from 0 to 100000000, a colon and keys, such as 1200:HI\\r",
         Message::KeysAtKeys =>
-            "run: --keys-at @: expected keys: the characters from space to ~, \\r for RETURN, \\b and \\f for the arrows, \\x for Ctrl-X, \\\\ for \\",
+            "@: --keys-at @: expected keys: the characters from space to ~, \\r for RETURN, \\b and \\f for the arrows, \\x for Ctrl-X, \\\\ for \\",
         Message::KeysAtFull =>
-            "run: more than 4096 keys would be waiting after step @; type some of them later",
+            "@: more than 4096 keys would be waiting after step @; type some of them later",
         Message::KeysAtUntyped =>
-            "run: the run ended after @ steps, so the keys for step @ were not typed",
-        Message::KeysAtWithLast =>
-            "run: --last cannot be combined with --keys-at; use a2lab debug F to step through such a run",
+            "@: the run ended after @ steps, so the keys for step @ were not typed",
         Message::RecordLine =>
-            "--replay @, line @: expected a step and the code of a key, as in 1200 41, or as the last line 2000 END",
+            "--replay @, line @: expected a number of steps and the code of a key, as in 1200 41; the last line is as in 2000 END",
         Message::RecordOfAnotherSource =>
-            "run: --replay @: this is a recording of another source; give the source that was played",
+            "@: --replay @: this is a recording of another source; give the source that was played",
         Message::ReplayWithOption =>
             "--replay cannot be combined with @, because the recording has the keys and the steps",
         Message::SessionNotReached =>
-            "debug: --replay @: this is a recording of another source, or of more than 100000000 steps",
+            "debug: --replay @: this is a recording of another source, or of more than 100000000 steps; give the source that was played",
         Message::CallsWithOption =>
-            "trace: --calls cannot be combined with @, because it shows the routines of the whole run",
+            "trace: --calls cannot be combined with @, because --calls shows the routines of the whole run; leave one of them out",
         Message::ScriptLine =>
             "film: @, line @: not a chapter; write 120 TEXT or line 12 TEXT (a2lab help film)",
         Message::PageOverwrites => "film: the page would overwrite @; give -o another name",
@@ -107,18 +104,19 @@ fn sentence(message: Message) -> &'static str {
         Message::NoFailure => "promise: no routine failed, so the film @ was not written",
         Message::FilmOverwrites => "promise: the film would overwrite @; give --film another name",
         Message::CannotLayOut =>
-            "fmt: @: in columns it would be longer than 65536 bytes, or would no longer mean the same, so it is unchanged; split it",
+            "fmt: @: unchanged, because in columns it would be longer than 65536 bytes or would no longer mean the same; split the file, or lay it out by hand",
         Message::CheckWithWrite => "fmt: --check and -w cannot be combined; give one of them",
         Message::SeveralFiles => "fmt: several files need --check or -w",
         Message::WriteWithoutFiles => "fmt: -w needs the names of the files to rewrite",
         Message::KeysOverwrite => "play: the keys would overwrite @; give --record another name",
-        Message::KeysNotWritten => "play: cannot write the keys to @; it is unchanged",
+        Message::KeysNotWritten =>
+            "play: cannot write the keys to @; the file is unchanged, so give --record another name",
         Message::UnknownPace =>
-            "play: --pace @ is neither max nor a number of cycles per second from 1000 to 1000000000",
+            "play: --pace @: expected max or a number of cycles per second from 1000 to 1000000000",
         Message::PlayWithoutTerminal =>
             "play: standard input and output must be a terminal; a2lab run --keys K F runs without one",
         Message::PlayWithoutKeys =>
-            "play: the terminal is not set up for keys; start it by the command a2lab, not by the program lib/a2/a2lab",
+            "play: the terminal is not set up for keys; start it with the command a2lab, not with the program lib/a2/a2lab",
         Message::SmallTerminal => "play: the terminal has @x@ characters; make it at least 80x24",
         Message::SmallTerminalForPanes =>
             "debug: --tui needs a terminal of at least 80 columns and 24 rows",

@@ -65,7 +65,7 @@ macro_rules! row {
 // Of every run.
 
 pub const KEYS: OptionRow = row!(Text "--keys" "K" or "",
-    "Types the keys K, which all wait from the start; \\r is RETURN.");
+    "Types the keys K, which all wait from the start of the run; \\r is RETURN.");
 
 pub const LIMIT: OptionRow = row!(Number "--limit" "N" 0 to 100_000_000 or "1000000",
     "Stops the run after N steps.");
@@ -73,10 +73,18 @@ pub const LIMIT: OptionRow = row!(Number "--limit" "N" 0 to 100_000_000 or "1000
 pub const FREE: OptionRow = row!(Flag "--free",
     "Runs without the guard: code may begin anywhere, and may be overwritten.");
 
+// Of runs in which keys are typed.
+
+pub const KEYS_AT: OptionRow = row!(Texts "--keys-at" "N:K",
+    "Types the keys K after N steps, such as 1200:HI\\r.");
+
+pub const REPLAY: OptionRow = row!(Text "--replay" "T" or "",
+    "Repeats the session that a2lab play --record T recorded; not with --keys, --keys-at or --free.");
+
 // Of `run`.
 
 pub const MEM: OptionRow = row!(Texts "--mem" "P..P",
-    "Prints the bytes of RAM from one place to another after the run.");
+    "Prints, after the run, the bytes of RAM from one place to another.");
 
 pub const SAVE: OptionRow = row!(Text "--save" "IMAGE" or "",
     "Writes all of RAM after the run to the file IMAGE, as object lines.");
@@ -84,25 +92,19 @@ pub const SAVE: OptionRow = row!(Text "--save" "IMAGE" or "",
 pub const LAST: OptionRow = row!(Number "--last" "N" 0 to 100_000_000 or "",
     "Prints the last N steps on standard error, as trace does.");
 
-pub const KEYS_AT: OptionRow = row!(Texts "--keys-at" "N:K",
-    "Types the keys K after N steps, as in 1200:HI\\r.");
-
-pub const REPLAY: OptionRow = row!(Text "--replay" "T" or "",
-    "Repeats the session that a2lab play --record T recorded; no other option goes with it.");
-
 // Of `check`.
 
 pub const CHECK_FORMAT: OptionRow =
     row!(OneOf "--format" "FORMAT" ["long", "short", "json"] or "long",
-    "Prints errors at length, one per line for editors, or as JSON.");
+    "Prints errors in full (long), one per line for editors (short), or as JSON.");
 
 // Of `list`.
 
 pub const CYCLES: OptionRow = row!(Flag "--cycles",
-    "Adds the cycles of each instruction; + means that it may take more.");
+    "Adds the cycles of each instruction; + means that the instruction may take more cycles.");
 
 pub const NAMES: OptionRow = row!(Flag "--names",
-    "Ends with a table of the names: the line that defines each, and those that use it.");
+    "Adds at the end a table of the names: the line that defines each, and those that use it.");
 
 // Of `trace`.
 
@@ -110,7 +112,7 @@ pub const CALLS: OptionRow = row!(Flag "--calls",
     "Shows the routines of the whole run as a tree, instead of its steps.");
 
 pub const TRACE_FROM: OptionRow = row!(Number "--from" "N" 0 to 100_000_000 or "0",
-    "Shows step N and later ones.");
+    "Shows step N and all later steps.");
 
 pub const TRACE_LAST: OptionRow = row!(Number "--last" "N" 0 to 100_000_000 or "",
     "Shows only the last N of the steps that the other options choose.");
@@ -124,7 +126,7 @@ pub const STORES: OptionRow = row!(Text "--stores" "P..P" or "",
 // Of `profile`.
 
 pub const BY: OptionRow = row!(OneOf "--by" "UNIT" ["line", "routine"] or "line",
-    "Counts by line, or by routine that a JSR entered.");
+    "Counts by line, or by routine: code that a JSR entered.");
 
 pub const PROFILE_FORMAT: OptionRow =
     row!(OneOf "--format" "FORMAT" ["text", "json", "callgrind"] or "text",
@@ -153,7 +155,7 @@ pub const SCRIPT: OptionRow = row!(Text "--script" "S" or "",
 // Of `fmt`.
 
 pub const CHECK: OptionRow = row!(Flag "--check",
-    "Prints only the names of files that are not in columns; the exit status is 6 if there is one.");
+    "Prints only the names of files that are not in columns; the exit status is 6 if there is such a file.");
 
 pub const WRITE: OptionRow = row!(Flag "-w",
     "Rewrites each file that is not in columns.");
@@ -162,7 +164,7 @@ pub const WRITE: OptionRow = row!(Flag "-w",
 
 pub const DIALECT: OptionRow =
     row!(OneOf "--from" "WHAT" ["auto", "sc", "lisa", "merlin", "edasm", "ca65", "listing"] or "auto",
-    "Says what F is: a source for this assembler, or a listing of the Monitor; auto guesses.");
+    "Says what F is: a source for this assembler, or a listing of the Monitor; auto finds it out from the text.");
 
 // Of `test`.
 
@@ -173,24 +175,24 @@ pub const TEST_FORMAT: OptionRow =
 // Of `promise`.
 
 pub const STATES: OptionRow = row!(Number "--states" "N" 1 to 100_000_000 or "",
-    "Tries all states if there are at most N, and otherwise N of them. Without it, tries all if there are at most 16777216, and otherwise 1000000.");
+    "Tries all states if there are at most N, and N of the states otherwise. The default is all if there are at most 16777216, and 1000000 otherwise.");
 
 pub const FILM: OptionRow = row!(Text "--film" "PAGE" or "",
-    "Writes the film of the first run that fails to the file PAGE.");
+    "Writes to the file PAGE the film of the first run that fails.");
 
 // Of sessions.
 
 pub const MONITOR_PLAIN: OptionRow = row!(Flag "--plain",
-    "Shows no names and lines of a source beside the answers.");
+    "Shows no names or lines of a source beside the answers.");
 
 pub const PACE: OptionRow = row!(Text "--pace" "N" or "1022727",
     "Runs N cycles a second, 1000 to 1000000000, or as many as possible if N is max.");
 
 pub const RECORD: OptionRow = row!(Text "--record" "T" or "",
-    "Writes each key with its step to the file T at the end, for a2lab run --replay T.");
+    "At the end of the session, writes each key with its step to the file T, for a2lab run --replay T.");
 
 pub const COLOURS: OptionRow = row!(OneOf "--colours" "C" ["full", "256", "none"] or "",
-    "Shows lo-res in these colours; without it in those that the terminal has.");
+    "Shows lo-res in these colours; the default is the colours that the terminal has.");
 
 pub const TUI: OptionRow = row!(Flag "--tui",
     "Shows panes of source, registers, stack, memory and screen, in a terminal of at least 80x24.");
@@ -202,7 +204,7 @@ pub const DEBUGGER_PLAIN: OptionRow = row!(Flag "--plain",
     "Shows lines of the source only in the answer to list.");
 
 pub const KEEP: OptionRow = row!(Number "--keep" "N" 20 to 100_000_000 or "540",
-    "Keeps at most N copies of the machine, 124 KB each, to step back by.");
+    "Keeps at most N copies of the machine, 124 KB each, for going back.");
 
 pub static RUN_OPTIONS: [OptionRow; 8] = [KEYS, LIMIT, FREE, MEM, SAVE, LAST, KEYS_AT, REPLAY];
 
@@ -210,13 +212,23 @@ pub static CHECK_OPTIONS: [OptionRow; 1] = [CHECK_FORMAT];
 
 pub static LIST_OPTIONS: [OptionRow; 2] = [CYCLES, NAMES];
 
-pub static TRACE_OPTIONS: [OptionRow; 8] = [
-    KEYS, LIMIT, FREE, TRACE_FROM, TRACE_LAST, ONLY, STORES, CALLS,
+pub static TRACE_OPTIONS: [OptionRow; 10] = [
+    KEYS, LIMIT, FREE, TRACE_FROM, TRACE_LAST, ONLY, STORES, CALLS, KEYS_AT, REPLAY,
 ];
 
-pub static PROFILE_OPTIONS: [OptionRow; 5] = [PROFILE_KEYS, LIMIT, FREE, BY, PROFILE_FORMAT];
+pub static PROFILE_OPTIONS: [OptionRow; 7] = [
+    PROFILE_KEYS,
+    LIMIT,
+    FREE,
+    BY,
+    PROFILE_FORMAT,
+    KEYS_AT,
+    REPLAY,
+];
 
-pub static FILM_OPTIONS: [OptionRow; 7] = [KEYS, FILM_LIMIT, FREE, PAGE, FILM_FROM, STEPS, SCRIPT];
+pub static FILM_OPTIONS: [OptionRow; 9] = [
+    KEYS, FILM_LIMIT, FREE, PAGE, FILM_FROM, STEPS, SCRIPT, KEYS_AT, REPLAY,
+];
 
 pub static FMT_OPTIONS: [OptionRow; 2] = [CHECK, WRITE];
 
@@ -230,10 +242,11 @@ pub static MON_OPTIONS: [OptionRow; 1] = [MONITOR_PLAIN];
 
 pub static PLAY_OPTIONS: [OptionRow; 3] = [PACE, RECORD, COLOURS];
 
-pub static DEBUG_OPTIONS: [OptionRow; 7] = [
+pub static DEBUG_OPTIONS: [OptionRow; 8] = [
     KEYS,
     LIMIT,
     FREE,
+    KEYS_AT,
     DEBUGGER_REPLAY,
     TUI,
     DEBUGGER_PLAIN,

@@ -1,4 +1,2 @@
-pub mod Columns
 pub mod Filmed
-pub mod Imports
 pub mod Saved

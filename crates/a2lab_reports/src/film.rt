@@ -11,8 +11,8 @@ use a2_run::{AssembledText, RunFault};
 use a2_stream::{Input, Output};
 use a2lab_commands::options::{FILM_FROM, FILM_LIMIT, PAGE, SCRIPT, STEPS};
 use a2lab_commands::{
-    CommandArgs, Host, Message, Refusal, Value, assembled_text, refuse_overwriting_input, report,
-    run_args, settled, stop_status, text_of,
+    CommandArgs, Host, Message, Refusal, TimedRunArgs, Value, assembled_text, ended_of,
+    refuse_overwriting_input, report, settled, stop_status, text_of, timed_run_args,
 };
 use std::alloc::Global;
 
@@ -57,33 +57,43 @@ fn window_of(film: &FilmArgs<'_>, limit: Option<u32>) -> Window {
         (None, Some(_)) => left,
         (None, None) => USUAL_STEPS,
     };
-    Window { from, steps }
+    Window {
+        from,
+        steps: steps.min(FILM_MAX_STEPS),
+    }
 }
 
-/// Writes the film of a part of a source's run to the file `page`, which is replaced whole or not at all. Fails if a write
+// The same for a run of a command. A recorded session is shown whole, if it is not too long.
+fn window_of_run(asked: &FilmArgs<'_>, timed: &TimedRunArgs<'_>, limit: Option<u32>) -> Window {
+    match timed.recording {
+        Some(_) => window_of(asked, Some(timed.run.limit)),
+        None => window_of(asked, limit),
+    }
+}
+
+/// Writes the film of a part of a finished run to the file `page`, which is replaced whole or not at all. Fails if a write
 /// fails or there is no memory.
 pub fn film_into<D: Desk>(
     alloc: Global,
     assembled: &AssembledText<'_>,
     titles: Titles<'_>,
-    run: FilmedRun<'_>,
+    run: FilmedRun<'_, '_>,
     page: &str,
     desk: &mut D,
 ) -> Result<Cause, RunFault>
-    ensures { FilmsInto assembled.now.text titles.entry.title.now titles.entry.chapters.now run.entry.keys.now
-        run.entry.window run.entry.free page.now
-        (D.files desk.old) (D.files desk.new) result }
+    ensures { FilmsInto assembled.now.text titles.entry.title.now titles.entry.chapters.now run.entry.free run.entry.ended.now
+        run.entry.window page.now (D.files desk.old) (D.files desk.new) result }
 {
     let mut draft = desk.begin(page)?;
     let answer = film_source(alloc, assembled, titles, run, &mut draft);
     settled(page, draft, answer, desk)
 }
 
-// Writes the film of a part of a source's run to `page` or to the output.
+// Writes the film of a part of a finished run to `page` or to the output.
 fn film<S, D: Desk, C, R, W: Output, E>(
     assembled: &AssembledText<'_>,
     titles: Titles<'_>,
-    run: FilmedRun<'_>,
+    run: FilmedRun<'_, '_>,
     page: Option<&str>,
     host: &mut Host<S, D, C, R, W, E>,
 ) -> Result<Cause, RunFault> {
@@ -91,6 +101,28 @@ fn film<S, D: Desk, C, R, W: Output, E>(
         Some(page) => film_into(host.alloc, assembled, titles, run, page, &mut host.desk),
         None => film_source(host.alloc, assembled, titles, run, &mut host.output),
     }
+}
+
+// Runs a source, and writes the film of a part of the run to `page` or to the output. Returns the exit status.
+fn film_window<'a, S, D: Desk, C, R, W: Output, E: Output>(
+    assembled: &AssembledText<'_>,
+    titles: Titles<'_>,
+    timed: &TimedRunArgs<'a>,
+    window: Window,
+    page: Option<&str>,
+    host: &mut Host<S, D, C, R, W, E>,
+) -> Result<u8, Refusal<'a>>
+    ensures { IfOk result (λ status. status ≤ 5) }
+{
+    let ended = ended_of(host.alloc, assembled.program(), timed, &mut host.complaints)?;
+    let run = FilmedRun {
+        ended: &ended,
+        window,
+        free: timed.run.free,
+    };
+    let cause = film(assembled, titles, run, page, host)?;
+    timed.report_untyped(ended.machine().steps(), &mut host.complaints);
+    Ok(stop_status(cause))
 }
 
 /// Writes the film of a run. The exit status is 1 if the source or the script has an error, and 3 if the run stopped for another cause
@@ -103,13 +135,14 @@ pub fn film_of<'a, S: Shelf, D: Desk, C, R: Input, W: Output, E: Output>(
     ensures { IfOk result (λ status. status ≤ 5) }
 {
     let asked = film_args(given.arguments);
-    let order = run_args(given)?;
-    let window = window_of(&asked, given.arguments.number(&FILM_LIMIT));
+    let mut timed = timed_run_args(given, host)?;
+    let window = window_of_run(&asked, &timed, given.arguments.number(&FILM_LIMIT));
+    timed.limit_to(window.from.saturating_add(window.steps));
+    let (alloc, file) = (host.alloc, timed.run.file);
     let message = Message::PageOverwrites;
-    refuse_overwriting_input(message, asked.page, order.file, &host.desk)?;
+    refuse_overwriting_input(message, asked.page, file, &host.desk)?;
     refuse_overwriting_input(message, asked.page, asked.script, &host.desk)?;
-    let alloc = host.alloc;
-    let text = text_of(alloc, order.file, &mut host.shelf, &mut host.input)?;
+    let text = text_of(alloc, file, &mut host.shelf, &mut host.input)?;
     let script = match asked.script {
         Some(_) => text_of(alloc, asked.script, &mut host.shelf, &mut host.input)?,
         None => Vec::new(alloc),
@@ -124,15 +157,10 @@ pub fn film_of<'a, S: Shelf, D: Desk, C, R: Input, W: Output, E: Output>(
         }
         Err(ScriptFault::Memory) => return Err(Refusal::Fault(RunFault::Memory)),
     };
-    let assembled = assembled_text(alloc, order.file, text.as_slice(), &mut host.complaints)?;
+    let assembled = assembled_text(alloc, file, text.as_slice(), &mut host.complaints)?;
     let titles = Titles {
-        title: order.file.unwrap_or("a2").as_bytes(),
+        title: file.unwrap_or("a2").as_bytes(),
         chapters: chapters.as_slice(),
     };
-    let run = FilmedRun {
-        keys: &order.keys,
-        window,
-        free: order.free,
-    };
-    Ok(stop_status(film(&assembled, titles, run, asked.page, host)?))
+    film_window(&assembled, titles, &timed, window, asked.page, host)
 }

@@ -6,14 +6,16 @@ use a2_arguments::Arguments;
 use a2_bus::Keys;
 use a2_host::Shelf;
 use a2_machine::{Cause, write_cause};
-use a2_profile::{Format, Runs, Style, first_stop, profile_source, profile_source_routines};
+use a2_profile::{
+    Format, ProfileFault, Runs, Style, first_stop, profile_source, profile_source_routines,
+};
 use a2_run::{AssembledText, RunFault};
 use a2_stream::{Input, Output, put_all};
 use a2_text::decimal;
 use a2lab_commands::options::{BY, PROFILE_FORMAT, PROFILE_KEYS};
 use a2lab_commands::{
-    CommandArgs, FileRunArgs, Host, Refusal, assembled_text, keys_in, run_args, stop_status,
-    text_of,
+    CommandArgs, Host, Refusal, TimedRunArgs, assembled_text, keys_in, stop_status, text_of,
+    timed_run_args, typed_refusal,
 };
 use std::alloc::Global;
 
@@ -103,23 +105,32 @@ fn report_ends<E: Output>(causes: &[Cause], spellings: &[&str], complaints: &mut
 fn profile<W: Output>(
     alloc: Global,
     assembled: &AssembledText<'_>,
-    order: &FileRunArgs,
+    timed: &TimedRunArgs<'_>,
     asked: &ProfileArgs<'_>,
     output: &mut W,
-) -> Result<Vec<Cause>, RunFault> {
+) -> Result<Vec<Cause>, ProfileFault> {
     let runs = Runs {
         keys: asked.runs.as_slice(),
-        limit: order.limit,
-        free: order.free,
+        strokes: &timed.strokes,
+        limit: timed.run.limit,
+        free: timed.run.free,
     };
     let style = Style {
-        name: order.file.unwrap_or("-").as_bytes(),
+        name: timed.run.file.unwrap_or("-").as_bytes(),
         format: asked.format,
     };
     if asked.by_routine {
         profile_source_routines(alloc, assembled, runs, style, output)
     } else {
         profile_source(alloc, assembled, runs, style, output)
+    }
+}
+
+// Returns the error that ends the command.
+fn refusal_of<'a>(name: &'static str, fault: ProfileFault) -> Refusal<'a> {
+    match fault {
+        ProfileFault::Run(fault) => typed_refusal(name, fault),
+        ProfileFault::Write => Refusal::Fault(RunFault::Write),
     }
 }
 
@@ -133,15 +144,14 @@ pub fn profile_of<'a, S: Shelf, D, C, R: Input, W: Output, E: Output>(
     ensures { IfOk result (λ status. status ≤ 5) }
 {
     let asked = profile_args(host.alloc, given.arguments)?;
-    let order = run_args(given)?;
-    let text = text_of(host.alloc, order.file, &mut host.shelf, &mut host.input)?;
-    let assembled = assembled_text(
-        host.alloc,
-        order.file,
-        text.as_slice(),
-        &mut host.complaints,
-    )?;
-    let causes = profile(host.alloc, &assembled, &order, &asked, &mut host.output)?;
+    let timed = timed_run_args(given, host)?;
+    let (alloc, file) = (host.alloc, timed.run.file);
+    let text = text_of(alloc, file, &mut host.shelf, &mut host.input)?;
+    let assembled = assembled_text(alloc, file, text.as_slice(), &mut host.complaints)?;
+    let causes = match profile(alloc, &assembled, &timed, &asked, &mut host.output) {
+        Ok(causes) => causes,
+        Err(fault) => return Err(refusal_of(timed.command, fault)),
+    };
     let (causes, spellings) = (causes.as_slice(), asked.spellings.as_slice());
     report_ends(causes, spellings, &mut host.complaints);
     Ok(stop_status(first_stop(causes)))

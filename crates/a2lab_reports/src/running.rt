@@ -2,23 +2,25 @@
 
 ghost use Rattle.std.specs.Prelude.{◌≤◌, IfOk};
 
-use crate::checking::put_warnings_of;
+use crate::saving::machine_into;
 use crate::spans::span_in;
-use crate::typing::{machine_into, report_full, report_untyped, strokes_in};
-use a2_arguments::{Arguments, Given};
+use a2_arguments::Arguments;
 use a2_asm::Program;
 use a2_explain::explain_stop;
 use a2_host::{Desk, Shelf};
+use a2_machine::Cause;
 use a2_memory::{Part, write_parts};
-use a2_run::{AssembledText, RunArgs, RunFault};
+use a2_page::print;
+use a2_run::{AssembledText, RunFault};
 use a2_stream::{Input, Output};
-use a2_timed_keys::{Ended, Strokes, TimedArgs, TypedFault, show};
+use a2_timed_keys::Ended;
 use a2_trace::{Choice, trace_source};
-use a2lab_commands::options::{KEYS_AT, LAST, MEM, SAVE};
+use a2lab_commands::options::{LAST, MEM, SAVE};
 use a2lab_commands::{
-    CommandArgs, Host, Message, Refusal, assembled_text, refuse_overwriting_input, report_fault,
-    run_args, stop_status, text_of,
+    CommandArgs, Host, Message, Refusal, TimedRunArgs, assembled_text, end_status, ended_of,
+    put_end_state, refuse_overwriting_input, report_fault, text_of, timed_run_args,
 };
+use a2lab_sources::put_warnings_of;
 use std::alloc::Global;
 
 // Returns the part of RAM that a value of `--mem` names.
@@ -39,8 +41,6 @@ pub struct AfterRun<'a> {
     pub image: Option<&'a str>,
     /// How many of the last steps are printed.
     pub last: Option<u32>,
-    /// The keys that are typed at given steps.
-    pub strokes: Strokes,
 }
 
 // Returns the parts of RAM that the options name.
@@ -61,18 +61,6 @@ fn parts_of<'a>(
     Ok(parts)
 }
 
-// Returns the keys that the options type at given steps.
-fn strokes_of<'a>(alloc: Global, options: &[Given<'a>]) -> Result<Strokes, Refusal<'a>> {
-    let mut strokes = Strokes::new(alloc);
-    for option in options {
-        if option.name == KEYS_AT.name {
-            let (steps, keys) = strokes_in(option.value)?;
-            strokes.add(steps, &keys)?;
-        }
-    }
-    Ok(strokes)
-}
-
 // Returns what the options of `run` ask for.
 fn after_run_of<'a>(
     alloc: Global,
@@ -83,15 +71,13 @@ fn after_run_of<'a>(
         parts: parts_of(alloc, program, arguments)?,
         image: arguments.text(&SAVE),
         last: arguments.number(&LAST),
-        strokes: strokes_of(alloc, arguments.options.as_slice())?,
     })
 }
 
 // Prints the last steps of a run if `--last` asks for them.
 fn report_last_steps<E: Output>(
     alloc: Global,
-    assembled: &AssembledText<'_>,
-    run: RunArgs<'_>,
+    ended: &Ended<'_>,
     last: Option<u32>,
     complaints: &mut E,
 ) {
@@ -101,18 +87,20 @@ fn report_last_steps<E: Output>(
     let mut choice = Choice::all();
     choice.last = last;
     // If this fails, there is no place left to report it.
-    let _ = trace_source(alloc, assembled, run, &choice, complaints);
+    let _ = trace_source(alloc, ended, &choice, complaints);
 }
 
-// Saves and prints the memory that a run left, as the options ask for it, and returns the greatest exit status.
+// Saves and prints the memory that a run left, as the options ask for it, and returns the greatest exit status, at least `status`.
 fn do_after_run<S, D: Desk, C, R, W: Output, E: Output>(
     ended: Ended<'_>,
+    status: u8,
     asked: &AfterRun<'_>,
     host: &mut Host<S, D, C, R, W, E>,
 ) -> u8
+    requires { status ≤ 5 }
     ensures { result ≤ 5 }
 {
-    let mut greatest = stop_status(ended.cause());
+    let mut greatest = status;
     let machine = ended.into_machine();
     if let Some(image) = asked.image {
         if let Err(fault) = machine_into(host.alloc, &machine, image, &mut host.desk) {
@@ -125,35 +113,51 @@ fn do_after_run<S, D: Desk, C, R, W: Output, E: Output>(
     }
 }
 
+// Returns the cause of a run's end. A session that is repeated ends where it was left, for no cause, unless it stopped for another one.
+fn cause_of(ended: &Ended<'_>, timed: &TimedRunArgs<'_>) -> Option<Cause> {
+    match ended.cause() {
+        Cause::Limit | Cause::Keys if timed.is_at_end(ended.machine().steps()) => None,
+        cause => Some(cause),
+    }
+}
+
+// Reports why a run stopped, which keys were not typed, and its last steps if `--last` asks for them.
+fn report_run<E: Output>(
+    alloc: Global,
+    assembled: &AssembledText<'_>,
+    ended: &Ended<'_>,
+    timed: &TimedRunArgs<'_>,
+    complaints: &mut E,
+) {
+    if cause_of(ended, timed).is_some() {
+        // If this fails, there is no place left to report it.
+        let _ = explain_stop(alloc, assembled, ended, complaints);
+    }
+    timed.report_untyped(ended.machine().steps(), complaints);
+}
+
 // Runs a source, prints what the run leaves, reports why it stopped, and does what else the options ask for. The exit status is that of
-// the run, or 2 if too many keys would be waiting.
+// the run.
 fn run_assembled<'a, S, D: Desk, C, R, W: Output, E: Output>(
     assembled: &AssembledText<'_>,
-    run: RunArgs<'_>,
+    timed: &TimedRunArgs<'a>,
     asked: &AfterRun<'_>,
     host: &mut Host<S, D, C, R, W, E>,
 ) -> Result<u8, Refusal<'a>>
     ensures { IfOk result (λ status. status ≤ 5) }
 {
-    let (alloc, strokes) = (host.alloc, &asked.strokes);
-    let ended = match Ended::of(alloc, assembled.program(), TimedArgs { run, strokes }) {
-        Ok(ended) => ended,
-        Err(TypedFault::Full(steps)) => {
-            report_full(steps, &mut host.complaints);
-            return Ok(2);
-        }
-        Err(TypedFault::Memory) => return Err(Refusal::Fault(RunFault::Memory)),
-    };
-    show(ended.machine(), ended.cause(), &mut host.output)?;
-    // If this fails, there is no place left to report it.
-    let _ = explain_stop(alloc, assembled, &ended, &mut host.complaints);
-    report_untyped(strokes, ended.machine().steps(), &mut host.complaints);
-    report_last_steps(alloc, assembled, run, asked.last, &mut host.complaints);
-    Ok(do_after_run(ended, asked, host))
+    let alloc = host.alloc;
+    let ended = ended_of(alloc, assembled.program(), timed, &mut host.complaints)?;
+    let cause = cause_of(&ended, timed);
+    print(&ended.machine().view(), &mut host.output)?;
+    put_end_state(ended.machine(), cause, &mut host.output)?;
+    report_run(alloc, assembled, &ended, timed, &mut host.complaints);
+    report_last_steps(alloc, &ended, asked.last, &mut host.complaints);
+    Ok(do_after_run(ended, end_status(cause), asked, host))
 }
 
-/// Runs a source as `a2` does, prints the warnings for it, reports why it stopped, and does what the options ask for after the run. The
-/// exit status is 3 if the run stopped for another cause than RETURNED or BRK.
+/// Runs a source as `a2` does, or repeats a recorded session, prints the warnings for the source, reports why the run stopped, and does
+/// what the options ask for after the run. The exit status is 3 if the run stopped for another cause than RETURNED or BRK.
 #[inline(never)]
 pub fn run_of<'a, S: Shelf, D: Desk, C, R: Input, W: Output, E: Output>(
     given: &CommandArgs<'_, 'a>,
@@ -161,20 +165,13 @@ pub fn run_of<'a, S: Shelf, D: Desk, C, R: Input, W: Output, E: Output>(
 ) -> Result<u8, Refusal<'a>>
     ensures { IfOk result (λ status. status ≤ 5) }
 {
-    let order = run_args(given)?;
-    let alloc = host.alloc;
-    let text = text_of(alloc, order.file, &mut host.shelf, &mut host.input)?;
-    let assembled = assembled_text(alloc, order.file, text.as_slice(), &mut host.complaints)?;
-    put_warnings_of(alloc, order.file, &assembled, &mut host.complaints)?;
+    let timed = timed_run_args(given, host)?;
+    let (alloc, file) = (host.alloc, timed.run.file);
+    let text = text_of(alloc, file, &mut host.shelf, &mut host.input)?;
+    let assembled = assembled_text(alloc, file, text.as_slice(), &mut host.complaints)?;
+    put_warnings_of(alloc, file, &assembled, &mut host.complaints)?;
     let asked = after_run_of(alloc, assembled.program(), given.arguments)?;
-    refuse_overwriting_input(
-        Message::ImageOverwrites,
-        asked.image,
-        order.file,
-        &host.desk,
-    )?;
-    if asked.last.is_some() && !asked.strokes.as_slice().is_empty() {
-        return Err(Refusal::new(Message::KeysAtWithLast));
-    }
-    run_assembled(&assembled, order.run(), &asked, host)
+    let message = Message::ImageOverwrites;
+    refuse_overwriting_input(message, asked.image, file, &host.desk)?;
+    run_assembled(&assembled, &timed, &asked, host)
 }

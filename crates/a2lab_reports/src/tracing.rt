@@ -11,7 +11,8 @@ use a2_symbols::Span;
 use a2_trace::{Choice, trace_calls, trace_source};
 use a2lab_commands::options::{CALLS, ONLY, STORES, TRACE_FROM, TRACE_LAST};
 use a2lab_commands::{
-    CommandArgs, Host, Message, Refusal, assembled_text, run_args, stop_status, text_of,
+    CommandArgs, Host, Message, Refusal, TimedRunArgs, assembled_text, ended_of, first_named,
+    stop_status, text_of, timed_run_args,
 };
 use std::alloc::Global;
 
@@ -42,12 +43,29 @@ fn choice_of<'a>(
 
 // Refuses options that choose steps beside `--calls`.
 fn refuse_beside_calls<'a>(options: &[Given<'a>]) -> Result<(), Refusal<'a>> {
-    for option in options {
-        if matches!(option.name, "--from" | "--last" | "--only" | "--stores") {
-            return Err(Refusal::of(Message::CallsWithOption, option.name));
-        }
+    let choosing = [TRACE_FROM.name, TRACE_LAST.name, ONLY.name, STORES.name];
+    match first_named(options, &choosing) {
+        Some(other) => Err(Refusal::of(Message::CallsWithOption, other)),
+        None => Ok(()),
     }
-    Ok(())
+}
+
+// Runs a source, and prints the chosen steps of the run, or its tree of calls if no steps are chosen. Returns the exit status.
+fn trace<'a, S, D, C, R, W: Output, E: Output>(
+    program: &Program<Global>,
+    timed: &TimedRunArgs<'a>,
+    choice: Option<Choice>,
+    host: &mut Host<S, D, C, R, W, E>,
+) -> Result<u8, Refusal<'a>>
+    ensures { IfOk result (λ status. status ≤ 5) }
+{
+    let ended = ended_of(host.alloc, program, timed, &mut host.complaints)?;
+    match choice {
+        Some(choice) => trace_source(host.alloc, &ended, &choice, &mut host.output)?,
+        None => trace_calls(host.alloc, &ended, &mut host.output)?,
+    }
+    timed.report_untyped(ended.machine().steps(), &mut host.complaints);
+    Ok(stop_status(ended.cause()))
 }
 
 /// Prints the chosen steps of a run, or its tree of calls. The exit status is 3 if the run stopped for another cause than RETURNED or BRK.
@@ -58,29 +76,18 @@ pub fn trace_of<'a, S: Shelf, D, C, R: Input, W: Output, E: Output>(
 ) -> Result<u8, Refusal<'a>>
     ensures { IfOk result (λ status. status ≤ 5) }
 {
-    let order = run_args(given)?;
-    let text = text_of(host.alloc, order.file, &mut host.shelf, &mut host.input)?;
+    let timed = timed_run_args(given, host)?;
+    let (alloc, file) = (host.alloc, timed.run.file);
+    let text = text_of(alloc, file, &mut host.shelf, &mut host.input)?;
     let has_calls = given.arguments.has(&CALLS);
     if has_calls {
         refuse_beside_calls(given.arguments.options.as_slice())?;
     }
-    let assembled = assembled_text(
-        host.alloc,
-        order.file,
-        text.as_slice(),
-        &mut host.complaints,
-    )?;
-    let cause = if has_calls {
-        trace_calls(host.alloc, &assembled, order.run(), &mut host.output)?
+    let assembled = assembled_text(alloc, file, text.as_slice(), &mut host.complaints)?;
+    let choice = if has_calls {
+        None
     } else {
-        let choice = choice_of(assembled.program(), given.arguments)?;
-        trace_source(
-            host.alloc,
-            &assembled,
-            order.run(),
-            &choice,
-            &mut host.output,
-        )?
+        Some(choice_of(assembled.program(), given.arguments)?)
     };
-    Ok(stop_status(cause))
+    trace(assembled.program(), &timed, choice, host)
 }

@@ -3,20 +3,22 @@
 ghost use Rattle.std.specs.Prelude.{◌≤◌, IfOk};
 
 use crate::lines::{Lines, Prompt, columns_of, talked};
-use crate::replay::record_in;
 use crate::turning::bring;
-use a2_arguments::{Arguments, Given};
+use a2_arguments::Arguments;
+use a2_bus::Keys;
 use a2_debugger::Inspector;
 use a2_debugger_panes::{LEAST_COLUMNS, LEAST_ROWS, Panes, Wall};
 use a2_host::Shelf;
 use a2_run::{AssembledText, RunFault};
 use a2_stream::{Input, Output};
-use a2lab_commands::options::{DEBUGGER_PLAIN, DEBUGGER_REPLAY, KEEP, TUI};
+use a2_timed_keys::{Strokes, Typed, TypedFault};
+use a2lab_commands::options::{DEBUGGER_PLAIN, DEBUGGER_REPLAY, FREE, KEEP, KEYS, KEYS_AT, TUI};
 use a2lab_commands::{
-    CommandArgs, FileRunArgs, Host, Message, Refusal, Terminal, assembled_text, is_input,
-    report_write, run_args, text_of,
+    CommandArgs, FileRunArgs, Host, Message, Refusal, Terminal, assembled_text, first_named,
+    is_input, record_in, report_untyped, report_write, run_args, strokes_of, text_of,
+    typed_refusal,
 };
-use std::alloc::Global;
+use std::alloc::{AllocError, Global};
 use std::cell::Cell;
 
 /// How many copies of the machine are kept without `--keep`: about 64 MB of them.
@@ -132,13 +134,57 @@ fn go_to_end<'a, S: Shelf, D, C, R, W, E: Output>(
     }
 }
 
-// Refuses options that a recorded session rules out: it was played with the guard, and has its keys.
-fn refuse_beside_record<'a>(options: &[Given<'a>]) -> Result<(), Refusal<'a>> {
-    for option in options {
-        if matches!(option.name, "--keys" | "--free") {
-            return Err(Refusal::of(Message::ReplayWithOption, option.name));
+// Returns keys in the order of their steps.
+fn by_steps(alloc: Global, strokes: &Strokes) -> Result<Vec<Typed>, AllocError> {
+    let mut log = Vec::new(alloc);
+    for typed in strokes.as_slice() {
+        log.push(*typed)?;
+    }
+    log.as_mut_slice().sort_by_key(alloc, |typed| typed.steps)?;
+    Ok(log)
+}
+
+// Types the keys of a step, if the run goes that far. Returns whether it does.
+fn type_at<'a>(inspector: &mut Inspector<'_>, steps: u64, keys: Keys) -> Result<bool, Refusal<'a>> {
+    if !inspector.replay_to(steps) {
+        return Ok(false);
+    }
+    match inspector.type_keys(keys) {
+        Ok(()) => Ok(true),
+        Err(_) => Err(typed_refusal("debug", TypedFault::Full(steps))),
+    }
+}
+
+// Types all keys of a log in the order of their steps, those of a step at once. Returns whether the run goes far enough.
+fn type_log<'a>(inspector: &mut Inspector<'_>, log: &[Typed]) -> Result<bool, Refusal<'a>> {
+    let (mut steps, mut keys) = (0, Keys::new());
+    for typed in log {
+        if typed.steps != steps {
+            if !type_at(inspector, steps, keys)? {
+                return Ok(false);
+            }
+            (steps, keys) = (typed.steps, Keys::new());
+        }
+        if keys.push(typed.key).is_err() {
+            return Err(typed_refusal("debug", TypedFault::Full(steps)));
         }
     }
+    type_at(inspector, steps, keys)
+}
+
+// Types each key at its step, as far as the run goes, and takes the debugger back to the start.
+fn type_ahead<'a, E: Output>(
+    alloc: Global,
+    inspector: &mut Inspector<'_>,
+    strokes: &Strokes,
+    complaints: &mut E,
+) -> Result<(), Refusal<'a>> {
+    // To type a key forgets the keys of later steps.
+    let log = by_steps(alloc, strokes)?;
+    if !type_log(inspector, log.as_slice())? {
+        report_untyped("debug", strokes, inspector.machine().steps(), complaints);
+    }
+    inspector.go_to_start();
     Ok(())
 }
 
@@ -161,8 +207,16 @@ fn debug<'a, S: Shelf, D, C, R: Input, W: Output, E: Output>(
     let lines = lines_in(given.seat.stdin, columns.as_ref(), wall.is_some());
     let assembled = assembled_text(alloc, order.file, source, &mut host.complaints)?;
     let mut inspector = inspector_of(alloc, assembled, order, asked)?;
+    let strokes = strokes_of(alloc, "debug", given.arguments)?;
+    if !strokes.as_slice().is_empty() {
+        type_ahead(alloc, &mut inspector, &strokes, &mut host.complaints)?;
+    }
     if let Some(name) = asked.record {
-        refuse_beside_record(given.arguments.options.as_slice())?;
+        // A session was played with the guard, and has its keys.
+        let options = given.arguments.options.as_slice();
+        if let Some(other) = first_named(options, &[KEYS.name, KEYS_AT.name, FREE.name]) {
+            return Err(Refusal::of(Message::ReplayWithOption, other));
+        }
         go_to_end(&mut inspector, name, host)?;
     }
     Ok(debug_in(

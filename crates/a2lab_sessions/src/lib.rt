@@ -1,4 +1,4 @@
-//! The commands of `a2lab` that hold a session, `play`, `mon` and `debug`, and replays of recorded sessions.
+//! The commands of `a2lab` that hold a session: `play`, `mon` and `debug`.
 //!
 //! How it is called is shown in CALLING.md.
 #![tactic(auto)]
@@ -8,11 +8,9 @@
 mod debugging;
 mod lines;
 mod play;
-mod replay;
 mod terminal;
 mod turning;
 
 pub use debugging::debug_of;
 pub use play::play_of;
-pub use replay::replay_of;
 pub use terminal::mon_of;

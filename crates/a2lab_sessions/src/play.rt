@@ -11,9 +11,10 @@ use crate::turning::debug_here;
 use a2_arguments::Arguments;
 use a2_explain::report_stop;
 use a2_host::{Desk, Shelf};
-use a2_play::{Clock, Leave, Pace, Player, Session, TerminalSize, play, put_keys, put_record};
+use a2_play::{Clock, Leave, Pace, Player, Session, TerminalSize, play, put_keys};
 use a2_run::{AssembledText, RunFault};
 use a2_stream::{Input, Output, WriteFault, put};
+use a2_timed_keys::put_record;
 use a2_tty::Colours;
 use a2lab_commands::options::{COLOURS, PACE, RECORD};
 use a2lab_commands::{

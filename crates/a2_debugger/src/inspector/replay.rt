@@ -1,7 +1,7 @@
 //! Replaying a run that was recorded elsewhere.
 
-ghost use Rattle.std.specs.Prelude.{◌≡◌, ◌↔◌, ◌-◌, min, true, false, OnOk, OnErr};
-ghost use Rattle.a2_debugger.specs.Inspections.{GoesOn, with_keys_typed};
+ghost use Rattle.std.specs.Prelude.{◌≡◌, ◌↔◌, ◌-◌, min, true, false, Some, OnOk, OnErr};
+ghost use Rattle.a2_debugger.specs.Inspections.{GoesOn, moved_to, with_keys_typed};
 
 use super::{Inspector, go_on, note};
 use a2_bus::Keys;
@@ -26,6 +26,14 @@ impl<A: Allocator + Copy> Inspector<'_, A> {
         let _ = go_on(&mut self.history, ahead, &Nothing, &Nothing);
         note(&mut self.before, &self.history);
         self.history.position() == position
+    }
+
+    /// Goes back to the start of the run. Keys that were typed are typed again on the way forward. No byte counts as changed by this.
+    pub fn go_to_start(&mut self)
+        ensures { self.new ≡ record self.old { track = moved_to (Some 0) self.old.track } }
+    {
+        self.history.go_back(0);
+        note(&mut self.before, &self.history);
     }
 
     /// Types `keys` at the current position; keys typed at later positions are forgotten. Fails, with nothing changed, if more

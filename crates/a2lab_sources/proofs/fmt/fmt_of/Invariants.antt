@@ -1,6 +1,6 @@
 use Rattle.std.proofs.Common.{◌≤◌}
-use Rattle.a2lab_reports.proofs.checking.check_of.Given as goal
+use Rattle.a2lab_sources.proofs.fmt.fmt_of.Given as goal
 
 -- the status so far is one of the program's
 abbrev pub invariant-loop-file : goal.invariant-loop-file
-invariant-loop-file g l = l.status ≤ 5
+invariant-loop-file g l = l.status ≤ 6

@@ -4,8 +4,8 @@ use Rattle.a2_stream.specs.Stream.{Taker, Sends, Breaks}
 use Rattle.a2_host.specs.Desks.{Files, Saves}
 use Rattle.a2_fmt.specs.Formatted.{CanBeFormatted, IsFormatFault}
 use Rattle.a2_fmt.specs.Layout.{laid}
-use Rattle.a2lab_reports.specs.declared.fmt.FmtFault.{FmtFault}
-use Rattle.a2lab_reports.specs.declared.fmt.FmtFault.TheVariants.{Layout, Write}
+use Rattle.a2lab_sources.specs.declared.fmt.FmtFault.{FmtFault}
+use Rattle.a2lab_sources.specs.declared.fmt.FmtFault.TheVariants.{Layout, Write}
 
 -- the text was printed in columns and means the same; or it cannot be laid out and nothing was printed; or a part was printed and a
 -- write failed

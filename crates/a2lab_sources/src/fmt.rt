@@ -3,7 +3,7 @@
 ghost use Rattle.std.specs.Prelude.{◌≡◌, ◌≤◌, IfOk, IfErr};
 ghost use Rattle.a2_fmt.specs.Formatted.{CanBeFormatted, IsFormatFault};
 ghost use Rattle.a2_fmt.specs.Layout.{laid};
-ghost use Rattle.a2lab_reports.specs.Columns.{Shows, Names, Rewrites};
+ghost use Rattle.a2lab_sources.specs.Columns.{Shows, Names, Rewrites};
 
 use a2_arguments::Arguments;
 use a2_check::{Format, ReportFault, put_refusals, refusals_of};
@@ -67,7 +67,7 @@ pub enum FmtFault {
 }
 
 impl From<FormatFault> for FmtFault {
-    ghost use Rattle.a2lab_reports.specs.declared.fmt.FmtFault.TheVariants.{Layout};
+    ghost use Rattle.a2lab_sources.specs.declared.fmt.FmtFault.TheVariants.{Layout};
 
     ghost from_gives = { λ given fault. fault ≡ Layout given };
 
@@ -77,7 +77,7 @@ impl From<FormatFault> for FmtFault {
 }
 
 impl From<WriteFault> for FmtFault {
-    ghost use Rattle.a2lab_reports.specs.declared.fmt.FmtFault.TheVariants.{Write};
+    ghost use Rattle.a2lab_sources.specs.declared.fmt.FmtFault.TheVariants.{Write};
 
     ghost from_gives = { λ _ fault. fault ≡ Write };
 

@@ -1,6 +1,6 @@
 //! The film of a run in which a promise fails.
 
-ghost use Rattle.a2lab_reports.specs.Filmed.{FilmsFailureInto};
+ghost use Rattle.a2lab_promises.specs.Filmed.{FilmsFailureInto};
 
 use a2_film::{Chapter, Place, Reel, Titles, film_run};
 use a2_host::Desk;

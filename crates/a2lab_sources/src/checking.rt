@@ -64,7 +64,7 @@ fn warn<A: Allocator + Copy, E: Output>(
 }
 
 /// Prints the warnings for an assembled source, as `check` does.
-pub(crate) fn put_warnings_of<E: Output>(
+pub fn put_warnings_of<E: Output>(
     alloc: Global,
     file: Option<&str>,
     assembled: &AssembledText<'_>,

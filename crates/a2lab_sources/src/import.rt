@@ -1,7 +1,7 @@
 //! The command `import`: its arguments, and what is reported of the text that it converts.
 
 ghost use Rattle.std.specs.Prelude.{◌≡◌, ◌≤◌, IfOk};
-ghost use Rattle.a2lab_reports.specs.Imports.{ShowsRows};
+ghost use Rattle.a2lab_sources.specs.Imports.{ShowsRows};
 
 use a2_hex::HexFault;
 use a2_host::Shelf;
@@ -110,7 +110,7 @@ pub enum RowsFault {
 }
 
 impl From<ListingFault> for RowsFault {
-    ghost use Rattle.a2lab_reports.specs.declared.import.RowsFault.TheVariants.{Listing};
+    ghost use Rattle.a2lab_sources.specs.declared.import.RowsFault.TheVariants.{Listing};
 
     ghost from_gives = { λ given fault. fault ≡ Listing given };
 
@@ -120,7 +120,7 @@ impl From<ListingFault> for RowsFault {
 }
 
 impl From<WriteFault> for RowsFault {
-    ghost use Rattle.a2lab_reports.specs.declared.import.RowsFault.TheVariants.{Write};
+    ghost use Rattle.a2lab_sources.specs.declared.import.RowsFault.TheVariants.{Write};
 
     ghost from_gives = { λ _ fault. fault ≡ Write };
 

@@ -4,7 +4,7 @@ use Rattle.a2_bus.specs.View.{memory_of}
 use Rattle.a2_hex.specs.Images.{held}
 use Rattle.a2_hex.specs.ObjectText.{object_text}
 use Rattle.a2_memory.specs.Texts.{ram_lines}
-use Rattle.a2lab_reports.proofs.typing.put_image.Goals as goal
+use Rattle.a2lab_reports.proofs.saving.put_image.Goals as goal
 
 pub returns : goal.returns
 returns g c =

@@ -2,8 +2,8 @@
 use Rattle.std.specs.Prelude.{◌≡◌, ℕ, List, Result, Ok, Err}
 use Rattle.a2_stream.specs.Stream.{Taker, Sends, Breaks}
 use Rattle.a2_import.specs.Imported.{AssemblesToListing, IsListingFault}
-use Rattle.a2lab_reports.specs.declared.import.RowsFault.{RowsFault}
-use Rattle.a2lab_reports.specs.declared.import.RowsFault.TheVariants.{Listing, Write}
+use Rattle.a2lab_sources.specs.declared.import.RowsFault.{RowsFault}
+use Rattle.a2lab_sources.specs.declared.import.RowsFault.TheVariants.{Listing, Write}
 
 -- a source with the bytes of the listing was written; or there is none and nothing was written; or a part was written and a write failed
 abbrev pub ShowsRows : List ℕ → Taker → Taker → Result (Unit {0}) RowsFault → Type 0
