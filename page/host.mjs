@@ -188,6 +188,10 @@ function folderOf(path) {
   return path.slice(0, Math.max(path.lastIndexOf('/'), 0));
 }
 
+function nanoseconds(milliseconds) {
+  return BigInt(Math.round(milliseconds * 1e6));
+}
+
 const UTF8 = {decoder: new TextDecoder('utf-8', {ignoreBOM: true}), encoder: new TextEncoder()};
 
 // Answers a program's calls. Pointers and lengths have 64 bits and arrive as BigInt, though the memory has 32-bit addresses.
@@ -215,7 +219,7 @@ class System {
       stat: (name, length) => this.#stat(this.#text(name, length)),
       arg: (index, at, room) => this.#arg(Number(index), this.bytes(at, room)),
       isatty: file => this.#streams.get(file)?.isTerminal ? 1 : 0,
-      clock: number => BigInt(Math.round((number === 0 ? Date.now() : performance.now()) * 1e6)),
+      clock: number => nanoseconds(number === 0 ? Date.now() : performance.now()),
     };
   }
 
@@ -306,11 +310,29 @@ function breathe() {
   });
 }
 
+/**
+ * The clock of a session, in milliseconds. A program that shows something only so often shows a key at once if the clock goes ahead by that
+ * time. Then the clock stays until real time is the same, so it is never further ahead, and in the long run it is right.
+ */
+export class Clock {
+  #least = 0;
+
+  /** @param {number} time */
+  goAhead(time) {
+    this.#least = performance.now() + time;
+  }
+
+  get now() {
+    return Math.max(this.#least, performance.now());
+  }
+}
+
 /** A program whose reads of standard input wait for keys. It may keep its thread busy, so it belongs in a worker. */
 export class Session {
   #keys = [];
   #hasEnded = false;
   #wake = () => {};
+  #clock = new Clock();
 
   /**
    * @param {WebAssembly.Module} module
@@ -318,9 +340,10 @@ export class Session {
    * @param {object} how
    * @param {(stream: number, bytes: Uint8Array) => void} how.show Receives what the program writes to stream 1 (standard output) or 2.
    * @param {number} [how.wait] After so many milliseconds without a key, a read returns no bytes. If left out, it waits for a key.
+   * @param {number} [how.ahead] At a key, the clock goes ahead by so many milliseconds.
    */
-  constructor(module, call, {show, wait}) {
-    this.wait = wait;
+  constructor(module, call, {show, wait, ahead = 0}) {
+    Object.assign(this, {wait, ahead});
     const shown = number => ({isTerminal: true, write: bytes => { show(number, bytes.slice()); return bytes.length; }});
     const streams = [{isTerminal: true}, shown(1), shown(2)];
     /** @type {Promise<Ended>} How it ends. */
@@ -331,6 +354,7 @@ export class Session {
   /** Types these bytes. */
   type(bytes) {
     for (const it of bytes) this.#keys.push(it);
+    this.#clock.goAhead(this.ahead);
     this.#wake();
   }
 
@@ -342,9 +366,10 @@ export class Session {
 
   async #run(module, call, streams) {
     try {
-      const system = new System(call, streams), imports = system.imports, {read} = imports;
+      const system = new System(call, streams), imports = system.imports, {read, clock} = imports;
       const waiting = async (file, at, room) => file === 0 ? BigInt(await this.#read(system, at, room)) : read(file, at, room);
       imports.read = new WebAssembly.Suspending(waiting);
+      imports.clock = number => number === 0 ? clock(number) : nanoseconds(this.#clock.now);
       const {exports} = await WebAssembly.instantiate(module, {host: imports, env: {memory: system.memory}});
       return {status: await WebAssembly.promising(exports.main)(...NO_WORDS), fault: null};
     } catch (error) {

@@ -2,9 +2,9 @@
 //
 // It receives messages {kind, ..} and sends others:
 //
-//     begin  {module, words, files, wait}       begins a session     shown  {stream, bytes}, whenever it writes
-//     type   {bytes}, end {}                    keys, end of input   ended  {status, fault, files}, when it ends
-//     run    {id, module, words, files, input}  runs a filter        ran    {id, status, fault, stdout, stderr, files}
+//     begin  {module, words, files, wait, ahead}  begins a session   shown  {stream, bytes}, whenever it writes
+//     type   {bytes}, end {}                      keys, end of input ended  {status, fault, files}, when it ends
+//     run    {id, module, words, files, input}    runs a filter      ran    {id, status, fault, stdout, stderr, files}
 //
 // `files` is a list of pairs, a name and bytes; the worker sends back all files that there are at the end.
 import {MemoryFiles, Session, run} from './host.mjs';
@@ -20,9 +20,9 @@ const tasks = {
     postMessage({kind: 'ran', id, ...run(module, {words, input, files: memory}), files: contents(memory)});
   },
 
-  async begin({module, words, files, wait}) {
+  async begin({module, words, files, wait, ahead}) {
     const memory = new MemoryFiles(files), show = (stream, bytes) => postMessage({kind: 'shown', stream, bytes});
-    session = new Session(module, {words, files: memory}, {show, wait});
+    session = new Session(module, {words, files: memory}, {show, wait, ahead});
     postMessage({kind: 'ended', ...await session.ended, files: contents(memory)});
   },
 

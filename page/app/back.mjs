@@ -1,17 +1,24 @@
 // The part of the page that goes back and forward through a run. What it shows is in the run's film; nothing is computed here.
 import {showChanges} from './changes.mjs';
-import {byId, grouped, hex, make, setText} from './dom.mjs';
+import {byId, grouped, hex, later, make, setText} from './dom.mjs';
 import {colours} from './film.mjs';
+import {Instructions} from './instructions.mjs';
 import {MemoryTable} from './memory.mjs';
 import {notify} from './notices.mjs';
 import {Cancelled} from './programs.mjs';
 import {showRegisters} from './registers.mjs';
 import {CLOCK} from './samples.mjs';
 import {Screen, nameOf} from './screen.mjs';
+import {showStack} from './stack.mjs';
 import {Watch} from './watch.mjs';
+
+// After a move to a step, so many milliseconds pass before instructions are asked for.
+const REST = 120;
 
 export class Back {
   #run = null;
+  #instructions = null;
+  #nameSoon = later(REST, () => this.#nameInstructions());
   #step = 0;
   #chosen = null;
   #isCurrent = false;
@@ -32,6 +39,7 @@ export class Back {
   /** Shows the end of a run. @param {import('./runs.mjs').Run} run */
   take(run) {
     this.#run = run;
+    this.#instructions = new Instructions(run);
     this.#isCurrent = true;
     this.#chosen = null;
     byId('back').hidden = false;
@@ -155,6 +163,7 @@ export class Back {
     byId('at').oninput = event => this.go(Number(event.target.value));
     byId('back').onkeydown = event => this.#key(event, does);
     byId('screen').onclick = event => this.#clickScreen(event);
+    byId('stack-part').ontoggle = () => this.#showStack();
     byId('registers').onclick = event => this.choose(event.target.closest('button')?.dataset.register);
   }
 
@@ -195,18 +204,40 @@ export class Back {
     showRegisters(film, at, this.#chosen);
     this.memory.show(film, changed, this.#chosen);
     this.watch.show(film, changed);
+    this.#showStack();
+    this.#nameSoon();
     showChanges(film, at, this.#chosen, step => this.go(step), what => this.#then(() => this.#searchChange(what)));
     this.editor.showPlace(this.#isCurrent ? now : 0, this.#isCurrent ? was : 0);
     byId('back').classList.toggle('old', !this.#isCurrent);
   }
 
+  #showStack() {
+    if (this.#run && byId('stack-part').open) showStack(this.#run.film, this.#step - this.#run.film.first, step => this.go(step));
+  }
+
+  // Shows the instructions of this step and the next, if they are not known yet.
+  async #nameInstructions() {
+    const run = this.#run, step = this.#step;
+    try {
+      if (run && await this.#instructions.reach(step) && run === this.#run && step === this.#step) this.#show();
+    } catch (error) {
+      if (!(error instanceof Cancelled)) notify(String(error.message ?? error), {kind: 'error'});
+    }
+  }
+
+  // The address, the bytes and the instruction at an address, beside the line of the source.
+  #instruction(film, address) {
+    const words = this.#instructions.at(film, address);
+    return words ? [' ', make('span', {class: 'instruction'}, words)] : [];
+  }
+
   #say(film, at, now) {
     const lines = [];
     if (this.#step === 0) lines.push(make('p', {}, 'The start: nothing has run yet.'));
-    else if (at > 0) lines.push(make('p', {}, `This step: ${film.said(at)}.`));
+    else if (at > 0) lines.push(make('p', {}, `This step: ${film.said(at)}.`, ...this.#instruction(film, film.PC[at - 1])));
     const pc = film.PC[at], service = film.svc[pc];
     const next = service ? `the service ${service}` : now ? `line ${now}: ${film.code[now - 1]}` : `$${hex(pc, 4)}`;
-    if (this.#step < this.#run.steps) lines.push(make('p', {class: 'next'}, `Next: ${next}`));
+    if (this.#step < this.#run.steps) lines.push(make('p', {class: 'next'}, `Next: ${next}`, ...this.#instruction(film, pc)));
     else lines.push(make('p', {class: 'next'}, `The run ended here${now ? `, before line ${now}: ${film.code[now - 1]}` : ''}.`));
     if (!this.#isCurrent) lines.push(make('p', {class: 'hint'}, 'You have changed the text since this run. Run it again to see its lines.'));
     byId('said').replaceChildren(...lines);

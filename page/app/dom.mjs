@@ -45,6 +45,26 @@ export function later(time, call) {
   };
 }
 
+/** Calls a function once before the next frame is drawn, however often it is asked to. */
+export function inNextFrame(call) {
+  let isAsked = false;
+  return () => {
+    if (isAsked) return;
+    isAsked = true;
+    requestAnimationFrame(() => { isAsked = false; call(); });
+  };
+}
+
+/** Calls a function when it is asked to, but at most once in so many milliseconds. The last request is always answered. */
+export function seldom(time, call) {
+  let timer = null, isAsked = false;
+  const answer = () => { timer = isAsked ? setTimeout(answer, time) : null; if (isAsked) { isAsked = false; call(); } };
+  return () => {
+    isAsked = true;
+    if (timer === null) answer();
+  };
+}
+
 /** Returns the text of a block of data in the page (make-html.mjs), or nothing if the page has no such block. */
 export function block(name) {
   return byId(`data-${name}`)?.textContent;

@@ -18,7 +18,7 @@ const KINDS = [
  */
 export function listen(programOf, optionsOf) {
   const list = byId('exports'), runner = new Runner(), kinds = KINDS.filter(it => has(it.words([], '')[0]));
-  list.append(make('option', {value: ''}, 'Save as…'), ...kinds.map((it, at) => make('option', {value: at}, it.label)));
+  list.append(make('option', {value: ''}, 'Save as'), ...kinds.map((it, at) => make('option', {value: at}, it.label)));
   list.onchange = async () => {
     const {end, type, words} = kinds[list.value], {name, text} = programOf(), options = runOptions(optionsOf());
     list.value = '';

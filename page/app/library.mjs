@@ -1,5 +1,6 @@
 // The programs of the user: which one is open, and where each is kept.
 import {block, byId, grouped, later, make} from './dom.mjs';
+import {exerciseHere, pageOf} from './exercise.mjs';
 import * as files from './files.mjs';
 import {MOST_LINK, MOST_TEXT, fragmentOf, holdsProgram, programIn} from './link.mjs';
 import {ask, notify} from './notices.mjs';
@@ -24,12 +25,12 @@ export class Library {
   /**
    * @param {import('./editor.mjs').Editor} editor
    * @param {() => void} opened Is called after another program has been opened.
-   * @param {(name: string, program: object) => void} arrived Is called after a program has been opened from a link.
+   * @param {(program: {session: string, want: string}) => void} arrived Is called after a program has been opened from a link or an exercise.
    */
   constructor(editor, opened, arrived) {
     Object.assign(this, {editor, opened, arrived});
     const choices = EXAMPLES.map(({name, title}) => make('option', {value: name}, `${name}: ${title}`));
-    byId('examples').append(make('option', {value: ''}, 'Examples…'), ...choices);
+    byId('examples').append(make('option', {value: ''}, 'Examples'), ...choices);
     byId('examples').onchange = event => { this.openExample(event.target.value); event.target.value = ''; };
     byId('programs').onchange = event => this.open(event.target.value);
     byId('new').onclick = () => this.#new();
@@ -37,6 +38,7 @@ export class Library {
     byId('delete').onclick = () => this.#delete();
     byId('save').onclick = () => this.save();
     byId('link').onclick = () => this.#link();
+    byId('exercise').onclick = () => this.saveExercise();
     byId('link-session').onclick = () => this.#link({withSession: true});
     for (const id of ['keys', 'free', 'want', 'session']) byId(id).addEventListener('input', () => this.changed());
     files.listen((name, text) => this.add({name, text}), why => notify(why, {kind: 'error'}));
@@ -48,13 +50,17 @@ export class Library {
     store.onOther(name => this.#otherTab(name));
   }
 
-  /** Opens what was open last, or what a link holds. */
+  /** Opens the exercise that this page has, or what was open last, or what a link holds. */
   async begin() {
+    if (!this.#takeExercise()) this.#openLast();
+    await this.#takeLink();
+  }
+
+  #openLast() {
     const last = store.current();
     if (last !== null && store.load(last)) this.open(last);
     else if (store.names().length > 0) this.open(store.names()[0]);
     else this.openExample(FIRST);
-    await this.#takeLink();
   }
 
   /** The name of the file of the present program, as messages of the programs show it. */
@@ -114,6 +120,34 @@ export class Library {
   save() {
     this.keep();
     files.save(this.file, this.editor.text);
+  }
+
+  /** Saves this page with the program and its tests in it, as an exercise. */
+  saveExercise() {
+    this.keep();
+    if (byId('want').value.trim() === '') return notify('An exercise needs tests, and this program has none yet. Write some first.', {kind: 'error'});
+    files.save(this.file.replace(/\.s$/, '.html'), pageOf({name: this.#name, ...this.#state}), 'text/html');
+    notify('The exercise was saved as a page. Give that file to your class: whoever opens it gets this program and its tests.');
+  }
+
+  // Opens the exercise of this page, or what the user has made of it before. Returns whether there is one.
+  #takeExercise() {
+    try {
+      const exercise = exerciseHere();
+      if (!exercise) return false;
+      const begun = store.names().find(it => it.startsWith(exercise.name) && store.load(it).want === exercise.want);
+      if (begun === undefined) this.add(exercise);
+      else this.open(begun);
+      const isChanged = this.editor.text !== exercise.text;
+      const buttons = isChanged ? [['Begin again', () => { this.add(exercise); this.arrived(exercise); }]] : [];
+      const whatNext = 'Its task is in the program. Press Test to see how far you are.';
+      notify(isChanged ? `This is your work on “${exercise.name}”.` : `“${exercise.name}” is an exercise. ${whatNext}`, {buttons});
+      this.arrived(exercise);
+      return true;
+    } catch {
+      notify('The exercise in this page is damaged. Ask for the file again.', {kind: 'error'});
+      return false;
+    }
   }
 
   #show(name, {text, keys, free, want, session}) {
@@ -208,7 +242,9 @@ export class Library {
       const {name: _, ...state} = program;
       if (JSON.stringify(kept) === JSON.stringify(state)) this.open(program.name);
       else this.add(program);
-      this.arrived(this.#name, program);
+      const what = program.session ? ' It has the keys of a session: press “Replay it”.' : program.want ? ' It has tests: press Test.' : '';
+      notify(`“${this.#name}” came with the link.${what}`);
+      this.arrived(program);
     } catch (error) {
       notify(error.message, {kind: 'error'});
     }

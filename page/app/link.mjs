@@ -39,6 +39,13 @@ export async function fragmentOf({name, text, keys, free, want, session}) {
   return MARK + base64.replaceAll('+', '-').replaceAll('/', '_').replace(/=+$/, '');
 }
 
+/** Returns the program that a value from elsewhere is, or throws an error. */
+export function programFrom({name, text, keys = '', free = false, want = '', session = ''}) {
+  const isText = it => typeof it === 'string' && it.length <= MOST_TEXT && !it.includes('\0');
+  if (![name, text, keys, want, session].every(isText) || keys.length > MOST_KEYS) throw new Error('not a program');
+  return {name: name.slice(0, MOST_NAME), text, keys, free: free === true, want, session};
+}
+
 /** Returns the program of a link. @param {string} hash */
 export async function programIn(hash) {
   const broken = new Refused('This link is damaged: a part of it may be missing. Nothing was changed.');
@@ -46,9 +53,7 @@ export async function programIn(hash) {
   try {
     const packed = Uint8Array.from(atob(hash.slice(MARK.length).replaceAll('-', '+').replaceAll('_', '/')), it => it.charCodeAt(0));
     const json = new TextDecoder('utf-8', {fatal: true}).decode(await through(packed, new DecompressionStream('deflate-raw'), 2 * MOST_TEXT));
-    const {name, text, keys = '', free = false, want = '', session = ''} = JSON.parse(json), texts = [name, text, keys, want, session];
-    if (!texts.every(it => typeof it === 'string' && it.length <= MOST_TEXT && !it.includes('\0')) || keys.length > MOST_KEYS) throw broken;
-    return {name: name.slice(0, MOST_NAME), text, keys, free: free === true, want, session};
+    return programFrom(JSON.parse(json));
   } catch (error) {
     throw error instanceof Refused ? error : broken;
   }

@@ -1,32 +1,58 @@
 // Draws what `play` writes to its terminal as the machine shows it: the left half is the screen, the right half is text beside it.
-import {setText} from './dom.mjs';
+import {inNextFrame, seldom, setText} from './dom.mjs';
 import {COLUMNS, Pen, ROWS} from './pen.mjs';
 
 // Where the text of the right half begins.
 const PANEL = COLUMNS + 2;
 const BLACK = '#000', LIGHT = '#e4f2e4';
+// The text beside the screen has counts that change with each step. Nobody reads them more often than so many milliseconds.
+const PANEL_TIME = 200;
+
+const textOf = cells => cells.map(it => it.text).join('').trimEnd();
 
 export class LiveScreen {
   #pen;
   #drawn = [];
+  #drawSoon = inNextFrame(() => this.#draw());
+  #tellSoon = seldom(PANEL_TIME, () => setText(this.panel, this.#panelText));
 
-  /** @param {HTMLCanvasElement} canvas  @param {HTMLElement} panel */
-  constructor(canvas, panel) {
+  /**
+   * @param {HTMLCanvasElement} canvas
+   * @param {HTMLElement} panel
+   * @param {import('./terminal.mjs').Terminal} terminal
+   */
+  constructor(canvas, panel, terminal) {
     this.#pen = new Pen(canvas);
-    this.panel = panel;
+    Object.assign(this, {panel, terminal});
   }
 
-  /** Draws what changed. @param {import('./terminal.mjs').Terminal} terminal */
-  draw(terminal) {
+  /** Draws what changed, before the next frame. Returns whether the machine's screen changed. */
+  show() {
+    this.#tellSoon();
+    const isOther = (row, at) => row.slice(0, COLUMNS).some((cell, column) => cell !== this.#drawn[at * COLUMNS + column]);
+    const hasChanged = this.terminal.cells.slice(0, ROWS).some(isOther);
+    if (hasChanged) this.#drawSoon();
+    return hasChanged;
+  }
+
+  /** The characters that are drawn. */
+  get text() {
+    return Array.from({length: ROWS}, (_, row) => textOf(this.#drawn.slice(row * COLUMNS, (row + 1) * COLUMNS))).join('\n').trimEnd();
+  }
+
+  get #panelText() {
+    return this.terminal.cells.slice(0, ROWS).map(row => textOf(row.slice(PANEL))).join('\n').trimEnd();
+  }
+
+  #draw() {
     for (let row = 0; row < ROWS; ++row) {
       for (let column = 0; column < COLUMNS; ++column) {
-        const cell = terminal.cells[row][column], at = row * COLUMNS + column;
+        const cell = this.terminal.cells[row][column], at = row * COLUMNS + column;
         if (this.#drawn[at] === cell) continue;
         this.#drawn[at] = cell;
         this.#cell(row, column, cell);
       }
     }
-    setText(this.panel, terminal.cells.slice(0, ROWS).map(row => row.slice(PANEL).map(it => it.text).join('').trimEnd()).join('\n').trimEnd());
   }
 
   // A block character is two blocks of lo-res; any other character is one of the machine's.

@@ -1,21 +1,26 @@
 // The part of the page with sessions: a program that runs live, the debugger and the Monitor, each in a worker of its own.
 import {canWait} from '../host.mjs';
-import {byId, later, setText} from './dom.mjs';
+import {byId, inNextFrame, later, setText} from './dom.mjs';
 import {LiveScreen} from './live-screen.mjs';
-import {faultText, filesOf, moduleOf, runOptions, startWorker, textsOf} from './programs.mjs';
+import {RECORD, faultText, filesOf, moduleOf, runOptions, startWorker, textsOf} from './programs.mjs';
 import {Terminal} from './terminal.mjs';
 
 // A command of `play` is this key and a letter.
 const COMMAND = 0x1d;
-// After so many milliseconds without a key, a read of `play` returns, so that it can draw.
-const WAIT = 16;
+// `play` draws whenever 33.3 ms have passed. So after so many milliseconds without a key, its read returns; and at a key, its clock goes ahead by
+// as many, so that it draws at once.
+const FRAME = 34;
+// As fast as it goes, it draws without a wait, and this much time is left to the keys.
+const LEAST_WAIT = 1;
 // Without a change for so long, the last rows of a terminal are read out.
 const QUIET = 600, READ_ROWS = 4;
 // A session that does not quit in so many milliseconds is ended.
 const PATIENCE = 1000;
 
-/** The file in which `play` records its keys. */
-export const RECORD = 'session.keys';
+// What is said before the first session.
+const BEFORE = 'Play runs your program while you type. The debugger goes through it step by step, in both directions. ' +
+  'The Monitor shows and changes memory.';
+const TOO_OLD = 'This browser cannot run sessions. They need Chromium or Chrome 137, or Firefox 153, or later. All the rest of the page works.';
 
 const ESCAPES = {ArrowUp: 'A', ArrowDown: 'B', ArrowRight: 'C', ArrowLeft: 'D', Home: 'H', End: 'F', Delete: '3~'};
 const SINGLE = {Enter: 13, Backspace: 127, Escape: 27, Tab: 9};
@@ -34,7 +39,7 @@ function keyBytes({key, ctrlKey, altKey, metaKey}) {
 }
 
 const KINDS = {
-  play: {rows: 24, columns: 80, wait: WAIT, words: pace => ['--pace', pace, '--record', RECORD]},
+  play: {rows: 24, columns: 80, frame: FRAME, words: pace => ['--pace', pace, '--record', RECORD]},
   debug: {rows: 40, columns: 100, words: () => ['--tui'], isRun: true},
   mon: {rows: 32, columns: 80, words: () => []},
 };
@@ -45,6 +50,8 @@ export class Live {
   #worker = null;
   #kind = '';
   #terminal = null;
+  #screen = null;
+  #drawLines = inNextFrame(() => this.#terminal.draw());
   #decoders = {};
   #speak = later(QUIET, () => this.#readOut());
 
@@ -64,8 +71,7 @@ export class Live {
     this.element.onpaste = event => { event.preventDefault(); this.#typeText(event.clipboardData.getData('text')); };
     byId('typed').oninput = event => { this.#typeText(event.target.value); event.target.value = ''; };
     byId('typed').onkeydown = event => { if (SINGLE[event.key] && event.key !== 'Tab') { event.preventDefault(); this.#type([SINGLE[event.key]]); } };
-    this.#ended(canWait ? 'Choose one of the three above.' :
-      'This browser cannot run sessions. They need Chromium or Chrome 137, or Firefox 153, or later. All the rest of the page works.');
+    this.#ended(canWait ? BEFORE : TOO_OLD);
     for (const it of ['play', 'debug', 'monitor']) byId(it).disabled = !canWait;
   }
 
@@ -76,8 +82,8 @@ export class Live {
    */
   async begin(kind, record) {
     this.stop('');
-    const {rows, columns, wait, words, isRun} = KINDS[kind], {name, text} = this.programOf();
-    const given = record !== undefined ? ['--replay', RECORD] : isRun ? runOptions(this.optionsOf()) : [], module = await moduleOf('a2lab');
+    const {rows, columns, frame, words, isRun} = KINDS[kind], {name, text} = this.programOf(), pace = byId('pace').value;
+    const given = record !== undefined ? runOptions({record}) : isRun ? runOptions(this.optionsOf()) : [], module = await moduleOf('a2lab');
     this.#open(kind, rows, columns);
     // (Another session may have begun meanwhile.)
     this.#worker?.terminate();
@@ -85,8 +91,9 @@ export class Live {
     this.#worker = worker;
     worker.onmessage = ({data}) => { if (worker === this.#worker) this.#take(data); };
     worker.onerror = event => { event.preventDefault(); this.stop(`The session failed: ${event.message}`); };
-    const all = ['a2lab', kind, '--raw', `${rows}x${columns}xfull`, ...words(byId('pace').value), ...given, name];
-    worker.postMessage({kind: 'begin', module, words: all, files: filesOf({[name]: text, [RECORD]: record}), wait});
+    const all = ['a2lab', kind, '--raw', `${rows}x${columns}xfull`, ...words(pace), ...given, name];
+    const times = pace === 'max' && kind === 'play' ? {wait: LEAST_WAIT} : {wait: frame, ahead: frame};
+    worker.postMessage({kind: 'begin', module, words: all, files: filesOf({[name]: text, [RECORD]: record}), ...times});
     byId('end-live').hidden = false;
     byId('play-keys').hidden = kind !== 'play';
     setText(byId('live-says'), '');
@@ -97,22 +104,27 @@ export class Live {
   showText(text, says) {
     this.stop(says);
     this.#open('text', KINDS.mon.rows, KINDS.mon.columns);
-    this.#terminal.write(text.trimEnd());
-    this.#speak();
+    this.#write(text.trimEnd());
   }
 
   // Makes an empty terminal.
   #open(kind, rows, columns) {
-    const screen = new LiveScreen(byId('live-screen'), byId('panel'));
     this.#kind = kind;
+    this.element.hidden = false;
     this.element.style.setProperty('--columns', columns);
-    this.#terminal = new Terminal(byId('lines'), rows, columns, () => this.#show(kind, screen));
+    this.#terminal = new Terminal(byId('lines'), rows, columns);
+    this.#screen = new LiveScreen(byId('live-screen'), byId('panel'), this.#terminal);
     this.#decoders = {1: new TextDecoder(), 2: new TextDecoder()};
   }
 
   /** What the terminal shows. */
   get text() {
     return this.#terminal?.text ?? '';
+  }
+
+  /** What is drawn of the machine's screen. */
+  get screenText() {
+    return this.#screen?.text ?? '';
   }
 
   /** Ends the session at once. */
@@ -137,8 +149,7 @@ export class Live {
 
   #take(data) {
     if (data.kind === 'shown') {
-      this.#terminal.write(this.#decoders[data.stream].decode(data.bytes, {stream: true}));
-      this.#speak();
+      this.#write(this.#decoders[data.stream].decode(data.bytes, {stream: true}));
     } else {
       this.#worker.terminate();
       // (3 is the status of a program that stopped by another cause than its end.)
@@ -149,12 +160,18 @@ export class Live {
     }
   }
 
+  // Shows what a program wrote. The counts of `play` are no news to read out.
+  #write(text) {
+    this.#terminal.write(text);
+    const isScreen = this.#isScreen;
+    if (byId('lines').hidden !== isScreen) [byId('live-view').hidden, byId('lines').hidden] = [!isScreen, isScreen];
+    if (!isScreen) this.#drawLines();
+    if (!isScreen || this.#screen.show()) this.#speak();
+  }
+
   // While `play` runs the machine, it hides the cursor, and its screen is drawn. Otherwise the terminal is shown.
-  #show(kind, screen) {
-    const isScreen = kind === 'play' && !this.#terminal.hasCursor;
-    byId('live-view').hidden = !isScreen;
-    byId('lines').hidden = isScreen;
-    if (isScreen) screen.draw(this.#terminal);
+  get #isScreen() {
+    return this.#kind === 'play' && !this.#terminal.hasCursor;
   }
 
   #type(bytes) {
@@ -180,6 +197,7 @@ export class Live {
   }
 
   #readOut() {
-    setText(byId('terminal-words'), this.#terminal.text.split('\n').slice(-READ_ROWS).join('\n'));
+    const text = this.#isScreen ? this.screenText : this.text;
+    setText(byId('terminal-words'), text.split('\n').slice(-READ_ROWS).join('\n'));
   }
 }

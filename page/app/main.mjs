@@ -48,12 +48,10 @@ function opened() {
   parts.replay.show();
 }
 
-// A program has come with a link. If it is an exercise, or has the keys of a session, the page says what can be done with it.
-function arrived(name, {want, session}) {
+// A program has come with a link or an exercise. Shows the part that is of use for it.
+function arrived({want, session}) {
   if (session) parts.tabs.show('tab-live');
   else if (want) parts.tabs.show('tab-tests');
-  const what = session ? ' It has the keys of a session: press “Replay it”.' : want ? ' It has tests: press Test.' : '';
-  notify(`“${name}” came with the link.${what}`);
 }
 
 function makeParts(editor) {
@@ -63,7 +61,7 @@ function makeParts(editor) {
   parts.runs = new RunPart(programOf, parts.back);
   parts.sound = new Sound(() => parts.back.run);
   parts.live = new Live(programOf, optionsOf);
-  parts.replay = new Replay(programOf, parts.live, () => parts.library.changed());
+  parts.replay = new Replay(programOf, parts.live, () => parts.library.changed(), run);
   parts.tests = new Tests(programOf, run);
   parts.tools = new Tools(editor, programOf, optionsOf, showFilm);
   parts.checker = new Checker(editor, () => parts.library.file);

@@ -12,11 +12,27 @@ const LIGHT = '#e4f2e4', DARK = '#000';
 /** The shapes of 64 characters; each is 8 rows of 7 dots, `#` or `.`. (font.txt) */
 const SHAPES = JSON.parse(block('font'));
 
+// Draws all characters beside each other, and below them all inverse characters.
+function drawnShapes() {
+  const canvas = new OffscreenCanvas(SHAPES.length * WIDTH, 2 * HEIGHT), context = canvas.getContext('2d');
+  for (const [row, paper, ink] of [[0, DARK, LIGHT], [1, LIGHT, DARK]]) {
+    context.fillStyle = paper;
+    context.fillRect(0, row * HEIGHT, canvas.width, HEIGHT);
+    context.fillStyle = ink;
+    SHAPES.forEach((dots, at) => dots.forEach((line, down) => [...line].forEach((dot, across) => {
+      if (dot === '#') context.fillRect(at * WIDTH + DOT * across, row * HEIGHT + DOT * down, DOT, DOT);
+    })));
+  }
+  return canvas;
+}
+
+let shapes = null;
+
 export class Pen {
   /** @param {HTMLCanvasElement} canvas */
   constructor(canvas) {
     [canvas.width, canvas.height] = [COLUMNS * WIDTH, ROWS * HEIGHT];
-    this.context = canvas.getContext('2d');
+    this.context = canvas.getContext('2d', {alpha: false});
   }
 
   /** Makes all dark. */
@@ -31,14 +47,8 @@ export class Pen {
 
   /** Draws the character of these six bits. */
   character(row, column, bits, isInverse) {
-    const [x, y] = [column * WIDTH, row * HEIGHT];
-    this.fill(isInverse ? LIGHT : DARK, x, y, WIDTH, HEIGHT);
-    this.context.fillStyle = isInverse ? DARK : LIGHT;
-    SHAPES[bits].forEach((dots, down) => {
-      for (let across = 0; across < dots.length; ++across) {
-        if (dots[across] === '#') this.context.fillRect(x + DOT * across, y + DOT * down, DOT, DOT);
-      }
-    });
+    shapes ??= drawnShapes();
+    this.context.drawImage(shapes, bits * WIDTH, isInverse ? HEIGHT : 0, WIDTH, HEIGHT, column * WIDTH, row * HEIGHT, WIDTH, HEIGHT);
   }
 
   /** Draws two blocks, one above the other. */

@@ -33,10 +33,16 @@ export function textsOf(files) {
   return Object.fromEntries(files.map(([name, bytes]) => [name, read(bytes)]));
 }
 
-/** Returns the options of a program's run that has these keys waiting, and no guard if it is free. @returns {string[]} */
-export function runOptions({keys, free}) {
-  return [...(keys ? ['--keys', keys] : []), ...(free ? ['--free'] : [])];
+/**
+ * Returns the options of a program's run: of a session that was recorded, or of a run that has these keys waiting, and no guard if it is free.
+ * @returns {string[]}
+ */
+export function runOptions({keys, free, record}) {
+  return record !== undefined ? ['--replay', RECORD] : [...(keys ? ['--keys', keys] : []), ...(free ? ['--free'] : [])];
 }
+
+/** The file that has the keys of a live session. */
+export const RECORD = 'session.keys';
 
 /** What a call that was cancelled throws. */
 export class Cancelled extends Error {}
@@ -95,6 +101,14 @@ export class Runner {
       this.#worker.postMessage(message);
     });
   }
+}
+
+const helps = new Map();
+
+/** Whether a command of a2lab has an option, as its help says. @param {string} command  @param {string} option  @returns {Promise<boolean>} */
+export async function takes(command, option) {
+  if (!helps.has(command)) helps.set(command, new Runner().run(['a2lab', 'help', command], {}).then(it => it.stdout));
+  return (await helps.get(command)).includes(`\n  ${option} `);
 }
 
 const FAULTS = {

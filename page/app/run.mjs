@@ -64,7 +64,7 @@ export class RunPart {
       return;
     }
     const good = status === 0 ? 'good' : 'bad';
-    this.#say(make('p', {class: `mono stop ${good}`}, cause ?? ''), make('p', {class: 'mono'}, lines[0]),
+    this.#say(make('p', {class: `mono stop ${good}`}, cause ?? 'The session ended here.'), make('p', {class: 'mono'}, lines[0]),
       ...(explained ? [make('pre', {class: 'explained'}, explained)] : []));
     this.back.take(run);
   }

@@ -1,6 +1,9 @@
 // A run of a program, and films of parts of it.
 import {filmIn} from './film.mjs';
-import {Runner, faultText, runOptions} from './programs.mjs';
+import {RECORD, Runner, faultText, runOptions, takes} from './programs.mjs';
+
+// (A trace does not wait for films, and each run asks for its own.)
+const tracer = new Runner();
 
 /** How many steps a film has at most. Reading one takes about a tenth of a second. */
 const WINDOW = 50000;
@@ -13,6 +16,7 @@ const WINDOW = 50000;
  * @property {string} keys In the spelling of --keys.
  * @property {number} limit
  * @property {boolean} free
+ * @property {string} [record] The keys of a live session, with their steps. They replace `keys` and `free`, and `limit` is its number of steps.
  * @property {number} [linesBefore] So many lines at the start of the text are not the user's.
  */
 
@@ -48,10 +52,11 @@ export class Run {
    * @returns {Promise<{status: number, lines: string[], explained: string}>}
    */
   async begin() {
-    const {status, stdout, stderr} = await this.#call('run', '--limit', String(this.asked.limit));
+    const {limit, record} = this.asked, options = record === undefined ? ['--limit', String(limit)] : [];
+    const {status, stdout, stderr} = await this.#call('run', ...options);
     const lines = stdout.trimEnd().split('\n'), from = lines.findLastIndex(it => it.startsWith('A='));
     const hasRun = status === 0 || status === 3;
-    if (hasRun) await this.#take(this.asked.limit, 0);
+    if (hasRun) await this.#take(limit, 0);
     return {status, lines: hasRun && from >= 0 ? lines.slice(from) : [], explained: stderr.trimEnd()};
   }
 
@@ -68,6 +73,13 @@ export class Run {
     await this.#take(step, WINDOW);
   }
 
+  /** Returns the trace of so many steps of the run. @param {number} from The number of steps before them. */
+  async trace(from, steps) {
+    const end = Math.min(from + steps, this.asked.limit);
+    if (this.asked.record !== undefined && !await takes('trace', '--replay')) return '';
+    return (await this.#callBy(tracer, 'trace', '--from', String(from + 1), '--limit', String(end))).stdout;
+  }
+
   async #take(from, steps) {
     const most = Math.min(steps, this.asked.limit - from);
     const {stdout, stderr} = await this.#call('film', '--from', String(from), '--steps', String(Math.max(0, most)));
@@ -76,10 +88,14 @@ export class Run {
     this.steps = Math.max(this.steps, this.#film.first + this.#film.count);
   }
 
-  async #call(command, ...options) {
-    const {name, text} = this.asked;
+  #call(command, ...options) {
+    return this.#callBy(this.#runner, command, ...options);
+  }
+
+  async #callBy(runner, command, ...options) {
+    const {name, text, record} = this.asked;
     const words = ['a2lab', command, ...runOptions(this.asked), ...options, name];
-    const result = await this.#runner.run(words, {[name]: text});
+    const result = await runner.run(words, {[name]: text, [RECORD]: record});
     if (result.fault) throw new Error(faultText(result.fault));
     return result;
   }

@@ -5,6 +5,8 @@ const TEXT_SWITCH = 1, MIXED = 2, PAGE_2 = 4, HI_RES = 8;
 const FIRST_TEXT_ROW = 20, FLASH_TIME = 270;
 // Hi-res: the colours of a dot by its bit 7 and the parity of its column, and of two dots beside each other.
 const HUES = [['#c63cf0', '#3ad03a'], ['#2f8cf0', '#f0802f']], WHITE = '#fff', BLACK = '#000', FRAME = '#ffcf33';
+// What a cell shows that must be drawn again.
+const STALE = '';
 
 /** The address in page 1 of a cell. */
 export function cellAt(row, column) {
@@ -28,6 +30,9 @@ export class Screen {
   #isInverted = false;
   #timer;
   #drawn = null;
+  // What each cell shows, and each row of hi-res.
+  #cells = [];
+  #lines = [];
 
   /**
    * @param {HTMLCanvasElement} canvas
@@ -49,6 +54,8 @@ export class Screen {
   clear() {
     this.#drawn = null;
     clearTimeout(this.#timer);
+    this.#cells = [];
+    this.#lines = [];
     this.pen.clear();
     this.words.textContent = '';
   }
@@ -67,10 +74,11 @@ export class Screen {
       let line = '';
       for (let column = 0; column < COLUMNS; ++column) {
         const address = cellAt(row, column) + offset, byte = ram[address];
+        const isHiRes = !isText && (switches & HI_RES) !== 0;
         if (isText) flashes = this.#character(row, column, byte) || flashes;
-        else if (!(switches & HI_RES)) this.pen.blocks(row, column, this.colours[byte & 15], this.colours[byte >> 4]);
+        else if (!isHiRes) this.#blocks(row, column, byte);
         line += isText ? characterOf(byte) : ' ';
-        if (changed.has(address) && changed.size < 400 && (isText || !(switches & HI_RES))) this.pen.frame(row, column, FRAME);
+        if (changed.has(address) && changed.size < 400 && !isHiRes) this.#frame(row, column);
       }
       lines.push(line.trimEnd());
       if (!isText && switches & HI_RES) this.#hiRes(ram, row, switches & PAGE_2 ? 0x4000 : 0x2000);
@@ -79,17 +87,38 @@ export class Screen {
     this.#flash(flashes);
   }
 
+  // Whether a cell shows something else than this. From now on it shows this.
+  #shows(row, column, what) {
+    const at = row * COLUMNS + column, isOther = this.#cells[at] !== what;
+    this.#cells[at] = what;
+    this.#lines[row] = STALE;
+    return isOther;
+  }
+
+  #blocks(row, column, byte) {
+    if (this.#shows(row, column, `blocks ${byte}`)) this.pen.blocks(row, column, this.colours[byte & 15], this.colours[byte >> 4]);
+  }
+
+  #frame(row, column) {
+    this.pen.frame(row, column, FRAME);
+    this.#shows(row, column, STALE);
+  }
+
   // Whether the character flashes.
   #character(row, column, byte) {
-    const flashes = byte >= 64 && byte < 128;
-    this.pen.character(row, column, byte & 63, byte < 64 || flashes && (this.#isInverted || this.still.matches));
+    const flashes = byte >= 64 && byte < 128, isInverse = byte < 64 || flashes && (this.#isInverted || this.still.matches);
+    if (this.#shows(row, column, `${byte & 63} ${isInverse}`)) this.pen.character(row, column, byte & 63, isInverse);
     return flashes;
   }
 
   // The eight lines of dots of a row. A dot alone has the colour of its column; two beside each other are white.
   #hiRes(ram, row, page) {
-    for (let line = 0; line < 8; ++line) {
-      const from = page + 1024 * line + 128 * (row % 8) + 40 * (row >> 3);
+    const lines = Array.from({length: 8}, (_, line) => page + 1024 * line + 128 * (row % 8) + 40 * (row >> 3));
+    const bytes = lines.map(from => ram.subarray(from, from + COLUMNS).join()).join();
+    if (this.#lines[row] === bytes) return;
+    for (let column = 0; column < COLUMNS; ++column) this.#shows(row, column, STALE);
+    this.#lines[row] = bytes;
+    for (const [line, from] of lines.entries()) {
       const isOn = dot => dot >= 0 && dot < 280 && ram[from + Math.floor(dot / 7)] >> dot % 7 & 1;
       for (let dot = 0; dot < 280; ++dot) {
         const hues = HUES[ram[from + Math.floor(dot / 7)] >> 7];

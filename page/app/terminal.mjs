@@ -1,7 +1,7 @@
 // A small terminal: it understands the sequences that the programs write, and draws the rows that changed.
 import {make, setText} from './dom.mjs';
 
-const SEQUENCE = /\x1b\[([?0-9;]*)([A-Za-z])|\x1b$|\x1b\[[?0-9;]*$|[\s\S]/gu;
+const SEQUENCE = /\x1b\[([?0-9;]*)([A-Za-z])|\x1b$|\x1b\[[?0-9;]*$|[^\x00-\x1f]+|[\s\S]/gu;
 const PLAIN = Object.freeze({ink: '', paper: '', isBold: false, isInverse: false});
 const BASIC = ['#000000', '#cd3131', '#0dbc79', '#e5e510', '#2472c8', '#bc3fbc', '#11a8cd', '#e5e5e5'];
 const BRIGHT = ['#666666', '#f14c4c', '#23d18b', '#f5f543', '#3b8eea', '#d670d6', '#29b8db', '#ffffff'];
@@ -23,18 +23,17 @@ export class Terminal {
   /** Whether the cursor is shown. */
   hasCursor = true;
   #dirty = new Set();
-  #isDue = false;
 
-  /** @param {HTMLElement} element  @param {number} rows  @param {number} columns  @param {() => void} drawn Is called whenever it has drawn. */
-  constructor(element, rows, columns, drawn) {
-    Object.assign(this, {rows, columns, drawn});
+  /** @param {HTMLElement} element  @param {number} rows  @param {number} columns */
+  constructor(element, rows, columns) {
+    Object.assign(this, {rows, columns});
     this.cells = Array.from({length: rows}, () => this.#blank());
     this.lines = this.cells.map(() => make('div', {class: 'line'}));
     element.replaceChildren(...this.lines);
     this.#all();
   }
 
-  /** Takes what a program wrote. */
+  /** Takes what a program wrote. (`draw` shows it.) */
   write(text) {
     const whole = this.#rest + text;
     this.#rest = '';
@@ -42,12 +41,10 @@ export class Terminal {
     for (const [piece, values, letter] of whole.matchAll(SEQUENCE)) {
       if (letter) this.#do(values, letter);
       else if (piece[0] === '\x1b') this.#rest = piece;
-      else this.#put(piece);
+      else if (piece < ' ') this.#control(piece);
+      else for (const it of piece) this.#put(it);
     }
     this.#dirty.add(this.#row);
-    if (this.#isDue) return;
-    this.#isDue = true;
-    requestAnimationFrame(() => { this.#isDue = false; this.#draw(); });
   }
 
   /** What it shows, without blanks at the ends of lines. */
@@ -63,15 +60,16 @@ export class Terminal {
     for (let row = 0; row < this.rows; ++row) this.#dirty.add(row);
   }
 
-  #put(piece) {
+  #control(piece) {
     if (piece === '\n') this.#newLine();
     else if (piece === '\r') this.#column = 0;
     else if (piece === '\b') this.#column = Math.max(0, this.#column - 1);
-    else if (piece >= ' ') {
-      if (this.#column >= this.columns) this.#newLine();
-      this.cells[this.#row][this.#column++] = {text: piece, style: this.#style};
-      this.#dirty.add(this.#row);
-    }
+  }
+
+  #put(character) {
+    if (this.#column >= this.columns) this.#newLine();
+    this.cells[this.#row][this.#column++] = {text: character, style: this.#style};
+    this.#dirty.add(this.#row);
   }
 
   // A new line also returns to the first column, as at a terminal of Linux.
@@ -136,10 +134,10 @@ export class Terminal {
     this.#style = Object.freeze(style);
   }
 
-  #draw() {
+  /** Draws the rows that changed. */
+  draw() {
     for (const row of this.#dirty) this.lines[row].replaceChildren(...this.#spans(row));
     this.#dirty.clear();
-    this.drawn();
   }
 
   // The cells of a row, in pieces of one style.

@@ -1,9 +1,12 @@
 // Tests a2.html in Chromium, opened from disk: node app-in-chromium.mjs a2.html [A2]. A2 is the native program. An error, a line in the
 // console or a request is a failure, except the one request that a test makes.
+import fs from 'node:fs';
+import os from 'node:os';
 import path from 'node:path';
 import {pathToFileURL} from 'node:url';
 import {browser} from '../film/chromium.mjs';
-import {appTests} from './app.mjs';
+import {HELPERS, appTests} from './app.mjs';
+import {exerciseAgain, exercisePage, savedExercise} from './app-learning.mjs';
 import {equal, finish, test} from './count.mjs';
 
 const [file, a2] = process.argv.slice(2), url = pathToFileURL(path.resolve(file)).href;
@@ -80,6 +83,24 @@ try {
     equal(['* OF TAB 0\n', '* OF TAB 1\n'].filter(it => !kept.includes(it)), []);
     for (const it of tabs) await it.close();
   });
+  {
+    const page = await chromium.open(url);
+    await page.value('ready');
+    await page.value(HELPERS);
+    const file = path.join(fs.mkdtempSync(path.join(os.tmpdir(), 'page-exercise-')), 'exercise.html');
+    fs.writeFileSync(file, await savedExercise(page.value));
+    await page.value(`Object.keys(localStorage).forEach(it => localStorage.removeItem(it)), localStorage.setItem('a2.program.other', '{"text": ""}')`);
+    await page.close();
+    for (const tests of [exercisePage, exerciseAgain]) {
+      const other = await chromium.open(pathToFileURL(file).href);
+      await other.value('ready');
+      await other.value(HELPERS);
+      await tests(other.value);
+      await test('no error, no request', () => equal(other.faults().filter(it => !it.startsWith('request: blob:')), []));
+      await other.close();
+    }
+    fs.rmSync(path.dirname(file), {recursive: true});
+  }
   await test('the text is there after a reload', async () => {
     const first = await chromium.open(url);
     await first.value('ready');

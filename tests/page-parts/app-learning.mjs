@@ -38,12 +38,13 @@ export async function learning(value) {
   });
 }
 
+const want = (value, text) => value(inPage(`the.id('want').value = ${JSON.stringify(text)}; the.id('want').dispatchEvent(new Event('input'))`));
+
 export async function exercises(value) {
   const press = inPage(`the.id('tab-tests').click(); the.id('verdict').textContent = ''; parts.tests.run(); await the.until(() => the.text('verdict')); return the.text('verdict')`);
-  const want = text => value(inPage(`the.id('want').value = ${JSON.stringify(text)}; the.id('want').dispatchEvent(new Event('input'))`));
   await test('an exercise says what fails, and the failing case can be stepped, with the lines of the pupil', async () => {
     await value(inPage(`parts.library.add({name: 'exercise', text: ${JSON.stringify(WRONG)}})`));
-    await want(WANT);
+    await want(value, WANT);
     equal(await value(press), '1 of 2 passed.');
     equal(await value(`[...document.querySelectorAll('#cases li')].map(it => it.className)`), ['good', 'bad']);
     equal(await value(inPage(`document.querySelector('#cases button').click(); await the.until(() => !the.id('panel-run').hidden && the.id('stop').hidden && the.text('where').includes('step 7 of 7'), 'the film');
@@ -54,14 +55,47 @@ export async function exercises(value) {
     equal(await value(press), '2 of 2 passed. Well done!');
     await value(inPage(`the.type(' LDA\\n')`));
     equal(/^The program has an error/.test(await value(press)), true);
-    await want('nonsense\n');
+    await want(value, 'nonsense\n');
     equal(await value(press), 'The tests themselves have an error.');
   });
   await test('a link of an exercise opens its tests', async () => {
-    await want(WANT);
+    await want(value, WANT);
     equal(await value(inPage(`the.closeNotices(); the.copied = null; navigator.clipboard.writeText = async it => { the.copied = it; }; the.id('tab-run').click();
       the.type(' RTS\\n'); the.id('link').click(); await the.until(() => the.copied, 'a link'); parts.library.add({name: 'other', text: ''});
       await the.link(new URL(the.copied).hash); await the.until(() => !the.id('panel-tests').hidden); return [the.id('want').value, the.id('source').value]`)), [WANT, ' RTS\n']);
+  });
+}
+
+/** An exercise as a page: returns the text of the page that is saved. */
+export async function savedExercise(value) {
+  let page = '';
+  await test('an exercise is saved as a page', async () => {
+    await value(inPage(`parts.library.add({name: 'ex <b>', text: ${JSON.stringify(WRONG)} + '; </script><img src=x>\\n', want: ''}); the.closeNotices(); the.saved = null;
+      const make = URL.createObjectURL; URL.createObjectURL = it => { the.saved = it; return make(it); }; the.id('exercise').click()`));
+    equal(await value(`[the.saved, the.notices()[0].includes('needs tests')]`), [null, true]);
+    await want(value, WANT);
+    page = await value(inPage(`the.id('exercise').click(); await the.until(() => the.saved, 'a page'); return the.saved.text()`));
+    equal([page.length > 1e6, page.includes('</script><img')], [true, false]);
+    await value(`the.id('tab-run').click()`);
+  });
+  return page;
+}
+
+/** Tests a page with an exercise in it, which has just been opened. */
+export async function exercisePage(value) {
+  await test('a page with an exercise shows it, and keeps the work of a pupil', async () => {
+    equal(await value(inPage(`await ready; return [the.id('programs').value, the.id('source').value, the.id('want').value, the.id('panel-tests').hidden, document.querySelectorAll('#notices b, img').length]`)),
+      ['ex <b>', WRONG + '; </script><img src=x>\n', WANT, false, 0]);
+    equal(await value(inPage(`the.type(${JSON.stringify(WRONG.replace(' TAX\n', ''))}); parts.library.keep(); the.id('verdict').textContent = ''; parts.tests.run(); await the.until(() => the.text('verdict')); return the.text('verdict')`)),
+      '2 of 2 passed. Well done!');
+  });
+}
+
+/** The same page, opened again. */
+export async function exerciseAgain(value) {
+  await test('the page with an exercise opens the work of the pupil again, and can begin again', async () => {
+    equal(await value(inPage(`await ready; const mine = the.id('source').value; [...document.querySelectorAll('.notice button')].find(it => it.textContent === 'Begin again').click();
+      return [mine, the.id('source').value.includes(' TAX'), the.id('programs').value]`)), [WRONG.replace(' TAX\n', ''), true, 'ex <b> 2']);
   });
 }
 
@@ -73,6 +107,12 @@ export async function replays(value) {
     equal(/^\d+ 4F\n\d+ 4B\n\d+ END\n$/.test(await value(`the.id('session').value`)), true);
     equal(await value(inPage(`the.id('replay').click(); await the.until(() => the.text('live-says').includes('ran again'), 'the end'); return parts.live.text.startsWith('OK')`)), true);
   });
+  if (await value(inPage(`await parts.replay.show(); return !the.id('replay-run').hidden`))) {
+    await test('a session is gone through with the slider', async () => {
+      await value(inPage(`the.id('replay-run').click(); await the.until(() => !the.id('back').hidden && the.id('stop').hidden && the.text('screen-words').startsWith('OK'), 'the end')`));
+      equal(await value(inPage(`await the.at(0); const before = the.text('screen-words'); the.id('tab-live').click(); return before.includes('OK')`)), false);
+    });
+  }
   await test('the debugger begins at the end of the session, and goes back', async () => {
     const press = keys => value(inPage(`for (const key of ${JSON.stringify(keys)}) the.id('terminal').dispatchEvent(new KeyboardEvent('keydown', {key, cancelable: true, bubbles: true}))`));
     await value(inPage(`the.id('replay-debug').click(); await the.until(() => !the.id('end-live').hidden && parts.live.text.includes('OK'), 'the end of the session')`));

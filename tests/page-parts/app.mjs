@@ -9,7 +9,7 @@ import {exercises, learning, replays, sounds} from './app-learning.mjs';
 const example = name => fs.readFileSync(fileURLToPath(new URL(`../../examples/${name}.s`, import.meta.url)), 'utf8');
 
 // What the tests call in the page.
-const HELPERS = `window.the = {
+export const HELPERS = `window.the = {
   id: it => document.getElementById(it),
   text: it => document.getElementById(it).textContent,
   sleep: time => new Promise(done => setTimeout(done, time)),
@@ -159,6 +159,22 @@ async function longCalls(value) {
       await the.until(() => the.text('said').includes('Next: line 2'), 'line 2')`));
     await value(inPage(`await the.at(2); the.id('line-back').click(); await the.until(() => the.text('said').includes('Next: line 3'), 'line 3');
       the.id('line-back').click(); await the.until(() => the.text('where').startsWith('step 0 of'), 'the start')`));
+  });
+}
+
+// Two calls, one in the other, and a byte that is pushed.
+const CALLS = 'START LDX #3\n JSR OUTER\n RTS\nOUTER LDA #1\n PHA\n JSR INNER\n PLA\n RTS\nINNER TXA\n RTS\n';
+
+async function machineCode(value) {
+  await test('the stack has its return addresses, with the lines and the steps of their calls', async () => {
+    await value(inPage(`the.type(${JSON.stringify(CALLS)}); await the.ran(); await the.at(5)`));
+    const rows = await value(`[...document.querySelectorAll('#stack tr')].map(row => [...row.children].slice(0, 3).map(it => it.textContent).join(' '))`);
+    equal(rows.slice(0, 3), ['01F9 030B line 6: calls line 9 (INNER); returns to line 7', '01FB 01 line 5: pushes A ($01) onto the stack', '01FC 0304 line 2: calls line 4 (OUTER); returns to line 3']);
+    await value(inPage(`[...document.querySelectorAll('#stack button')][1].click(); await the.until(() => the.text('where').startsWith('step 4 of'))`));
+  });
+  await test('the next step and this one have their addresses, bytes and instructions', async () => {
+    equal(await value(inPage(`await the.at(4); await the.until(() => the.text('said').includes('JSR $'), 'the instruction');
+      return [...document.querySelectorAll('.instruction')].map(it => it.textContent)`)), ['0308- 48 PHA', '0309- 20 0E 03 JSR $030E']);
   });
 }
 
@@ -329,6 +345,7 @@ export async function appTests(value, a2) {
   await drawn(value);
   await longRuns(value);
   await longCalls(value);
+  await machineCode(value);
   await keeping(value);
   await links(value);
   await sessions(value);

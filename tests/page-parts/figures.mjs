@@ -52,7 +52,7 @@ async function goingBack(value) {
   return {first, later: middle(times)};
 }
 
-// Milliseconds from a key to the screen with it.
+// Milliseconds from a key to the screen on which it is drawn.
 async function keys(value) {
   await value(inPage(`parts.library.add({name: 'echo', text: 'L LDA $C000\\n BPL L\\n BIT $C010\\n JSR $FDED\\n JMP L\\n'}); id('tab-live').click(); id('play').click();
     await until(() => !id('end-live').hidden && parts.live.text !== '')`));
@@ -60,7 +60,7 @@ async function keys(value) {
   const times = [];
   for (let tries = 0; tries < TRIES; ++tries) {
     const typed = 'ABCDEFGHIJKLMNOPQRSTUVWXYZ'.slice(0, tries + 1);
-    times.push(await value(inPage(`const begun = performance.now(); press('${typed.at(-1)}'); await until(() => parts.live.text.includes('${typed}')); return performance.now() - begun`)));
+    times.push(await value(inPage(`const begun = performance.now(); press('${typed.at(-1)}'); await until(() => parts.live.screenText.includes('${typed}')); return performance.now() - begun`)));
     await sleep(100);
   }
   return middle(times);

@@ -1,5 +1,5 @@
 #!/usr/bin/env python3
-"""Runs the cases of tests/program with modules: program.py FOLDER PROGRAM=MODULE.. puts scripts that take the place of the programs into
+"""Runs the cases of tests/program with modules: program.py FOLDER PROGRAM=MODULE.. puts scripts in place of the programs into
 the folder.
 
 It leaves out cases with limits that the shell sets for a process, and with terminals. The last line is 'N passed, M failed'.
