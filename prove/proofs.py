@@ -135,7 +135,7 @@ class Proof(Run):
                     self.learn(state, each[3], f"({proof} {k} (omega arith))", words.counting(each, k))
 
     def signs(self, state, e, words):
-        """Tells the arithmetic the sign of each byte whose sign is used."""
+        """Gives the arithmetic the sign of each byte whose sign is used."""
         for term in signed_in(e, words):
             self.fact(state, f"le_bit 128 {par(term)}")
 

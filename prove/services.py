@@ -289,7 +289,7 @@ def served(it, registers, memory):
 
 
 def show(it, registers, screen):
-    """Does what a service does with cells of the screen; a hook does what the service behind it does."""
+    """Does what a service does with cells of the screen; a hook does what the service that it goes to does."""
     does = it.does.on_screen
     if does == "ReadsLine":
         screen.read(it.promise.keys)

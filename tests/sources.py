@@ -140,7 +140,7 @@ class Crate:
                 yield from ((new or old, it) for it in own or [it for found, it in self.reexported(of) if found == old])
 
     def named(self, name, item):
-        """An item, and behind a type or a trait its methods, those of traits only if they have clauses of their own."""
+        """An item, and after a type or a trait its methods, those of traits only if they have clauses of their own."""
         yield name, item
         if item.kind == "fn":
             return

@@ -404,7 +404,7 @@ class Trial:
                 elif self.earlier.has(it):
                     self.refused.append(it)
                 elif not it.functions:
-                    self.alone.append((it, "it changes what stands in no function"))
+                    self.alone.append((it, "it changes something outside of all functions"))
             if self.refused:
                 self.tell(f"{self.crate.name}: {len(self.refused)} of {len(self.faults)} were refused by an earlier run of the same")
             self.rounds([it for it in self.faults if it.functions and not it.bad and it not in self.refused])
