@@ -491,7 +491,7 @@ impl<A: Allocator + Copy> Machine<A> {
         ensures seen { observer.new ≡ observer_after O.seen (shown_at (code_of self.old.state) (world_of_state self.old.state))
             observer.old (self.new.state.steps - self.old.state.steps) }
     {
-        cause_in(self.run_by(limit, &NoBreakpoints, observer))
+        cause_in(self.run_to_observed(limit, &NoBreakpoints, observer))
     }
 
     /// Executes steps as [`Machine::run`] does, but stops after a step that reaches one of `breakpoints`. It then returns
@@ -500,11 +500,12 @@ impl<A: Allocator + Copy> Machine<A> {
     pub fn run_to<B: Breakpoints>(&mut self, limit: u32, breakpoints: &B) -> Stop
         ensures { IsRunTo (B.is_breakpoint breakpoints.now) limit self.old self.new result }
     {
-        self.run_by(limit, breakpoints, &mut NoObserver)
+        self.run_to_observed(limit, breakpoints, &mut NoObserver)
     }
 
-    // Runs as `run_to` does, and shows each step to the observer.
-    fn run_by<B: Breakpoints, O: Observer>(
+    /// Executes steps as [`Machine::run_to`] does, and returns what it returns. `observer` sees each step as it is executed,
+    /// including calls of services. This project's profile.
+    pub fn run_to_observed<B: Breakpoints, O: Observer>(
         &mut self,
         limit: u32,
         breakpoints: &B,
