@@ -1,6 +1,6 @@
 -- The routines along a run.
 use Rattle.std.proofs.Common.{◌≡◌, ◌⊎◌, inl, inr, ℕ, ◌+◌, ◌<◌, ◌≤◌, List, length, Option, Some, None, sym, subst, arith}
-use Rattle.a2_symbols.specs.declared.routines.Entry.{Entry}
+use Rattle.a2_routines.specs.declared.routines.Entry.{Entry}
 use Rattle.a2_history.specs.Courses.{Course}
 use Rattle.a2_history.specs.Routines.{entered, IsNewestOutside}
 

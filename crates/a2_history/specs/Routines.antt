@@ -1,7 +1,7 @@
 -- The routines that a run has entered and not left. This project's profile.
 use Rattle.std.specs.Prelude.{ℕ, ◌<◌, ◌≤◌, List, length, Option, Some, None}
-use Rattle.a2_symbols.specs.declared.routines.Entry.{Entry}
-use Rattle.a2_symbols.specs.Routines as along
+use Rattle.a2_routines.specs.declared.routines.Entry.{Entry}
+use Rattle.a2_routines.specs.Routines as along
 use Rattle.a2_history.specs.Courses.{Course, world_on}
 
 -- the routines entered before a position and not left, the outermost first

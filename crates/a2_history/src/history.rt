@@ -16,7 +16,7 @@ use crate::spacing::STRIDE;
 use crate::{Halt, Lookout, SearchTarget, TypingFault};
 use a2_bus::Keys;
 use a2_machine::{Cause, Machine};
-use a2_symbols::Entry;
+use a2_routines::Entry;
 use std::alloc::{AllocError, Allocator, Global};
 use std::marker::Model;
 

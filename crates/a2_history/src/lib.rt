@@ -14,7 +14,7 @@ mod spacing;
 
 use a2_bus::Keys;
 use a2_machine::Cause;
-pub use a2_symbols::{Entry, is_call};
+pub use a2_routines::{Entry, is_call};
 pub use fault::TypingFault;
 pub use history::History;
 pub use lookout::Lookout;

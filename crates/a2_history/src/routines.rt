@@ -6,7 +6,7 @@ ghost use Rattle.a2_history.specs.Routines.{entered, IsNewestOutside};
 
 use crate::course::Course;
 use a2_machine::Machine;
-use a2_symbols::{Entry, enter, leave};
+use a2_routines::{Entry, enter, leave};
 use std::alloc::{AllocError, Allocator};
 
 /// What was found on the way through a run.

@@ -1,1 +1,1 @@
-pub mod Along
+pub mod Naming

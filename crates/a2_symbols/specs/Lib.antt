@@ -1,3 +1,3 @@
 pub mod Statements
 pub mod Places
-pub mod Routines
+pub mod Names

@@ -21,9 +21,34 @@ fn line_text<'a>(lines: &[&'a [u8]], number: u16) -> &'a [u8] {
     }
 }
 
+// Returns a byte of a text as it is shown after the byte `last`: `?` for a control character but a tab, and for each byte above ASCII
+// unless the text is UTF-8.
+fn shown(last: u8, byte: u8, is_utf8: bool) -> u8 {
+    match byte {
+        b'\t' | b' '..=b'~' => byte,
+        // These are the control characters from U+0080 to U+009F.
+        0x80..=0x9F if last == 0xC2 => b'?',
+        0x80..=0xFF if is_utf8 => byte,
+        _ => b'?',
+    }
+}
+
+/// Writes a text of a source, such as a line, with `?` for each byte that a terminal does not show as a character.
+pub fn put_text<W: Output>(text: &[u8], writer: &mut W) -> Result<(), WriteFault> {
+    let is_utf8 = std::str::from_utf8(text).is_ok();
+    let mut last = 0;
+    for byte in text {
+        put(&[shown(last, *byte, is_utf8)], writer)?;
+        last = *byte;
+    }
+    Ok(())
+}
+
 // Writes a line as its number and text.
 fn put_line<W: Output>(number: &[u8], text: &[u8], writer: &mut W) -> Result<(), WriteFault> {
-    put_all(&[b"line ", number, b" `", text, b"`"], writer)
+    put_all(&[b"line ", number, b" `"], writer)?;
+    put_text(text, writer)?;
+    put(b"`", writer)
 }
 
 /// Writes an address as `$6801`.

@@ -10,10 +10,10 @@ use Rattle.a2_asm.specs.Assembled.{Assembled}
 use Rattle.a2_machine.specs.Meaning.{End}
 use Rattle.a2_machine.specs.Output.{cause_line}
 use Rattle.a2_machine.specs.State.{MachineState, world_of_state}
-use Rattle.a2_symbols.specs.declared.routines.Entry.{Entry}
-use Rattle.a2_symbols.specs.Routines.{is_call, entry_at, with_call, entered}
-use Rattle.a2_symbols.specs.Routines as routines
-use Rattle.a2_profile.proofs.Walking.{map-filter, map-push}
+use Rattle.a2_routines.specs.declared.routines.Entry.{Entry}
+use Rattle.a2_routines.specs.Routines.{is_call, entry_at, with_call, entered}
+use Rattle.a2_routines.specs.Routines as routines
+use Rattle.a2_routines.proofs.Along.{map-filter, map-push}
 use Rattle.a2_trace.specs.declared.calls.Visit.{Visit}
 use Rattle.a2_trace.specs.Calls.{visit_of, entered_row, spent_row, is_within, word_of, left_rows, visits, visits_called, call_row, back_rows, call_rows, call_tree}
 use Rattle.a2_trace.specs.Called.{begun}

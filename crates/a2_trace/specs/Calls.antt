@@ -16,10 +16,9 @@ use Rattle.a2_machine.specs.Meaning.{End}
 use Rattle.a2_machine.specs.Output.{cause_line}
 use Rattle.a2_timed_keys.specs.Finished.{Finished}
 use Rattle.a2_timed_keys.specs.Rerun.{worlds_of, end_of}
-use Rattle.a2_symbols.specs.declared.routines.Entry.{Entry}
-use Rattle.a2_symbols.specs.Routines.{is_call, entry_at, with_call, entered}
-use Rattle.a2_profile.specs.Routines.{begin_of}
-use Rattle.a2_profile.specs.RoutineTable.{name_of}
+use Rattle.a2_routines.specs.declared.routines.Entry.{Entry}
+use Rattle.a2_routines.specs.Routines.{is_call, entry_at, begin_of, with_call, entered}
+use Rattle.a2_symbols.specs.Names.{name_of}
 use Rattle.a2_trace.specs.declared.calls.Visit.{Visit}
 
 -- what is recorded of a routine that was entered: where its JSR is and where it begins, the stack pointer before the JSR, and the

@@ -15,11 +15,11 @@ ghost use Rattle.a2_trace.specs.Calls.{IsCallTreeOf};
 
 use a2_asm::{Names, Program, Statement};
 use a2_machine::{Machine, write_cause};
-use a2_profile::name_of;
+use a2_routines::is_call;
 use a2_run::RunFault;
 use a2_services::service_at;
 use a2_stream::{Output, WriteFault, put_all};
-use a2_symbols::is_call;
+use a2_symbols::name_of;
 use a2_text::{decimal, hex_word};
 use a2_timed_keys::{Ended, Rerun};
 use arrayvec::ArrayVec;
@@ -372,7 +372,7 @@ fn draw_run<A: Allocator + Copy, W: Output>(
 
 /// Writes the routines of a run as a tree: a row where a JSR enters one, with its address and name, and where the JSR is; and a row where
 /// it is left, with the steps and cycles since, including those of what it calls. At the end of the run there is such a row for each
-/// routine that was not left, and then the cause line. [`a2_symbols::enter`] and [`a2_symbols::leave`] say which routines there are; a
+/// routine that was not left, and then the cause line. [`a2_routines::enter`] and [`a2_routines::leave`] say which routines there are; a
 /// service that is called is one. Each row is indented by two blanks more than that of the routine around it, up to 64. Fails if a write
 /// fails, or if there is not enough memory. This project's profile.
 pub fn trace_calls<A: Allocator + Copy, W: Output>(

@@ -2,7 +2,7 @@ use Rattle.std.proofs.Common.{◌+◌, arith, subst, sym, ap, ◌∙◌}
 use Rattle.a2_history.specs.Courses.{world_on}
 use Rattle.a2_history.specs.Routines.{IsNewestOutside}
 use Rattle.a2_history.proofs.Ways.{on-way}
-use Rattle.a2_symbols.proofs.Along.{entered-start, entered-next}
+use Rattle.a2_routines.proofs.Along.{entered-start, entered-next}
 use Rattle.a2_history.proofs.Routes.{outside-start, outside-here, outside-before}
 use Rattle.a2_history.proofs.routines.routines_up_to.Goals.{then-len-most, else-len-most}
 use Rattle.a2_history.proofs.routines.routines_up_to.Goals as goal

@@ -5,7 +5,7 @@ use Rattle.a2_effect.specs.declared.Regs.{Regs}
 use Rattle.a2_services.specs.World.{World}
 use Rattle.a2_stream.proofs.Joined.{Sends-nil, Breaks-then, broke}
 use Rattle.a2_stream.specs.Stream.{Breaks}
-use Rattle.a2_symbols.specs.Routines.{is_call}
+use Rattle.a2_routines.specs.Routines.{is_call}
 use Rattle.a2_timed_keys.specs.Finished.{Finished}
 use Rattle.a2_timed_keys.specs.Rerun.{Rerunning, worlds_of, end_of}
 use Rattle.a2_trace.specs.Calls.{call_tree}

@@ -3,7 +3,7 @@
 use Rattle.std.specs.Prelude.{ℕ, zero, suc, ◌==◌, nat_lt, Bool, false, List, [], ◌∷◌, ◌++◌, filter, if◌then◌else◌, Option, Some, None}
 use Rattle.a2_bus.specs.Memory.{peek}
 use Rattle.a2_services.specs.World.{World}
-use Rattle.a2_symbols.specs.declared.routines.Entry.{Entry}
+use Rattle.a2_routines.specs.declared.routines.Entry.{Entry}
 
 -- whether the byte is JSR's opcode: MCS6500 Programming Manual, appendix B
 abbrev pub is_jsr : Option ℕ → Bool
@@ -17,6 +17,10 @@ is_call world = is_jsr (peek world.memory world.registers.pc)
 -- what the JSR at a position enters
 abbrev pub entry_at : ℕ → World → Entry
 entry_at position world = record { position = position; call = world.registers.pc; s = world.registers.s }
+
+-- where a routine begins: at the address that its JSR went to
+abbrev pub begin_of : (ℕ → World) → Entry → ℕ
+begin_of worlds entry = (worlds (suc entry.position)).registers.pc
 
 -- whether a world is still within a routine. A routine is left by the first step after which the stack pointer is not
 -- below its value before the JSR.

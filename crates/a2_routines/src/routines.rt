@@ -2,7 +2,7 @@
 
 ghost use Rattle.std.specs.Prelude.{◌≡◌, filter, IfOk};
 ghost use Rattle.a2_machine.specs.State.{world_of_state};
-ghost use Rattle.a2_symbols.specs.Routines.{is_call as is_call_of, is_within as is_within_of, with_call};
+ghost use Rattle.a2_routines.specs.Routines.{is_call as is_call_of, is_within as is_within_of, with_call};
 
 use a2_machine::Machine;
 use std::alloc::{AllocError, Allocator};
