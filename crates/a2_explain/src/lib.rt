@@ -18,4 +18,4 @@ mod step;
 mod stop;
 mod window;
 
-pub use stop::{explain_stop, report_stop};
+pub use stop::explain_stop;

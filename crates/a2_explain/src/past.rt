@@ -2,8 +2,7 @@
 
 use crate::recorder::Recorder;
 use crate::step::Step;
-use a2_machine::Machine;
-use a2_timed_keys::{Ended, Typed};
+use a2_timed_keys::Ended;
 use std::alloc::{AllocError, Allocator};
 
 /// How many steps before the stop are examined first.
@@ -20,54 +19,17 @@ pub(crate) struct Past<'e, 'a, A: Allocator> {
     steps: Vec<Step, A>,
 }
 
-// Returns a number of steps in the type in which machines take it. No run has more of them than fit.
-fn as_limit(steps: u64) -> u32 {
-    u32::try_from(steps).unwrap_or(u32::MAX)
-}
-
-// Returns the greatest number of steps, more than `made` and at most `end`, before which no key is typed; `end` at the end.
-fn next_due(typed: &[Typed], made: u64, end: u64) -> u64 {
-    let mut due = end;
-    for stroke in typed {
-        if made < stroke.steps && stroke.steps < due {
-            due = stroke.steps;
-        }
-    }
-    due
-}
-
-// Runs a machine to the end of its run, and records its steps.
-fn run_on<A: Allocator + Copy>(
-    ended: &Ended<'_, A>,
-    machine: &mut Machine<A>,
-    recorder: &mut Recorder<A>,
-) {
-    let end = ended.machine().steps();
-    // Each round runs at least one step.
-    for _ in machine.steps()..end {
-        let made = machine.steps();
-        if made >= end {
-            return;
-        }
-        let due = next_due(ended.strokes().as_slice(), made, end);
-        machine.run_observed(as_limit(due.saturating_sub(made)), recorder);
-        // There was room for these keys in the run.
-        let _ = ended.strokes().type_due(machine);
-    }
-}
-
 // Returns the last steps of a run, at most so many. Fails only if there is not enough memory.
 fn last_steps<A: Allocator + Copy>(
     alloc: A,
     ended: &Ended<'_, A>,
     count: u32,
 ) -> Result<Vec<Step, A>, AllocError> {
-    let first = as_limit(ended.machine().steps()).saturating_sub(count);
-    let again = ended.again(alloc, first)?;
-    let mut machine = Machine::for_copies(alloc)?;
-    machine.copy_from(again.machine());
-    let mut recorder = Recorder::of(alloc, &machine, count as usize)?;
-    run_on(ended, &mut machine, &mut recorder);
+    // No run has more steps than fit.
+    let end = u32::try_from(ended.machine().steps()).unwrap_or(u32::MAX);
+    let mut again = ended.again(alloc, end.saturating_sub(count))?;
+    let mut recorder = Recorder::of(alloc, again.machine(), count as usize)?;
+    again.finish(&mut recorder);
     Ok(recorder.into_steps())
 }
 

@@ -4,44 +4,10 @@ use crate::step::{Step, Store};
 use a2_burst::{Observer, StepView};
 use a2_effect::{Regs, stores_operand};
 use a2_hex::RAM_END;
-use a2_machine::Machine;
-use a2_opcode::{Mode, row_of};
+use a2_machine::{Machine, operand_address};
+use a2_opcode::row_of;
 use std::alloc::{AllocError, Allocator};
 use std::marker::Model;
-
-// Returns the byte of RAM at an address, or 0 past its end.
-fn byte_in(ram: &[u8], address: u16) -> u8 {
-    match ram.get(usize::from(address)) {
-        Some(byte) => *byte,
-        None => 0,
-    }
-}
-
-// Returns the word of page 0 at an address.
-fn pointer_in(ram: &[u8], address: u8) -> u16 {
-    let low = byte_in(ram, u16::from(address));
-    let high = byte_in(ram, u16::from(address.wrapping_add(1)));
-    u16::from_le_bytes([low, high])
-}
-
-// Returns the address of the operand of the instruction at PC, if it has one. A guarded run stores into no instruction, so the operand
-// is as it was before the step.
-fn operand_address(mode: Mode, regs: &Regs, ram: &[u8]) -> Option<u16> {
-    let (x, y) = (regs.x, regs.y);
-    let low = byte_in(ram, regs.pc.wrapping_add(1));
-    let word = u16::from_le_bytes([low, byte_in(ram, regs.pc.wrapping_add(2))]);
-    match mode {
-        Mode::ZeroPage => Some(u16::from(low)),
-        Mode::ZeroPageX => Some(u16::from(low.wrapping_add(x))),
-        Mode::ZeroPageY => Some(u16::from(low.wrapping_add(y))),
-        Mode::Absolute => Some(word),
-        Mode::AbsoluteX => Some(word.wrapping_add(u16::from(x))),
-        Mode::AbsoluteY => Some(word.wrapping_add(u16::from(y))),
-        Mode::IndexedIndirect => Some(pointer_in(ram, low.wrapping_add(x))),
-        Mode::IndirectIndexed => Some(pointer_in(ram, low).wrapping_add(u16::from(y))),
-        _ => None,
-    }
-}
 
 // Returns what an instruction with this opcode stored, from the registers before it and RAM after it.
 fn store_of(opcode: u8, regs: &Regs, ram: &[u8]) -> Option<Store> {
@@ -55,7 +21,7 @@ fn store_of(opcode: u8, regs: &Regs, ram: &[u8]) -> Option<Store> {
     }
     Some(Store {
         address,
-        byte: byte_in(ram, address),
+        byte: *ram.get(usize::from(address))?,
     })
 }
 

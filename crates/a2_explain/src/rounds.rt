@@ -13,10 +13,19 @@ use a2_stream::{Output, WriteFault, put};
 use a2_symbols::{Scene, put_number, put_place, statement_at};
 use std::alloc::Allocator;
 
-// Returns whether the instruction of a statement reads the keyboard.
+// Returns whether the instruction of a statement reads the keyboard, perhaps with an index, which is then most likely 0.
 fn looks_for_key(statement: &Statement) -> bool {
     match statement.instr {
-        Some(instr) => instr.mode == Mode::Absolute && instr.value == KBD,
+        Some(instr) => {
+            matches!(
+                instr.mode,
+                Mode::Absolute | Mode::AbsoluteX | Mode::AbsoluteY
+            ) && instr.value == KBD
+                && !matches!(
+                    instr.mnemonic,
+                    Mnemonic::Sta | Mnemonic::Stx | Mnemonic::Sty
+                )
+        }
         None => false,
     }
 }

@@ -16,7 +16,7 @@ use a2_opcode::Mnemonic;
 use a2_run::{AssembledText, RunFault};
 use a2_services::{Needs, row_of, service_at};
 use a2_stream::{Output, WriteFault, put};
-use a2_symbols::{Scene, put_address, put_number, put_place};
+use a2_symbols::{Scene, put_address, put_number, put_place, put_stop};
 use a2_text::cut;
 use a2_timed_keys::Ended;
 use std::alloc::Allocator;
@@ -40,20 +40,6 @@ fn put_last<A: Allocator + Copy, W: Output>(
     put_place(scene, step.regs.pc, writer)?;
     put(b", in step ", writer)?;
     put_number(step.before.saturating_add(1), writer)?;
-    put(b"\n", writer)
-}
-
-// Writes where a run stopped, and why.
-fn put_stop<A: Allocator + Copy, W: Output>(
-    scene: &Scene<A>,
-    pc: u16,
-    cause: Cause,
-    writer: &mut W,
-) -> Result<(), WriteFault> {
-    put(b"a2lab: stopped at ", writer)?;
-    put_place(scene, pc, writer)?;
-    put(b": ", writer)?;
-    put(cause.sentence(), writer)?;
     put(b"\n", writer)
 }
 
@@ -219,21 +205,4 @@ pub fn explain_stop<A: Allocator + Copy, W: Output>(
         lines: lines.as_slice(),
     };
     explain(alloc, &scene, ended, writer)
-}
-
-/// Writes where a run of this source stopped with PC at `pc`, and what the cause means there, in one line that begins with
-/// `a2lab: `. Fails if a write fails, or if there is not enough memory. This project's profile.
-pub fn report_stop<A: Allocator + Copy, W: Output>(
-    alloc: A,
-    assembled: &AssembledText<'_, A>,
-    pc: u16,
-    cause: Cause,
-    writer: &mut W,
-) -> Result<(), RunFault> {
-    let lines = cut(alloc, assembled.text())?;
-    let scene = Scene {
-        program: assembled.program(),
-        lines: lines.as_slice(),
-    };
-    Ok(put_stop(&scene, pc, cause, writer)?)
 }

@@ -53,6 +53,15 @@ static LOCATIONS: [Location; 6] = [
     },
 ];
 
+// Returns the locations that a service with these needs uses.
+fn locations_of(needs: Needs) -> &'static [Location] {
+    match needs {
+        // It sets the cursor.
+        Needs::Window => &LOCATIONS[..4],
+        _ => &LOCATIONS,
+    }
+}
+
 /// Returns the byte of RAM at an address.
 pub(crate) fn byte_at<A: Allocator + Copy>(machine: &Machine<A>, address: u16) -> u8 {
     machine.peek(address).unwrap_or(0)
@@ -164,10 +173,11 @@ fn stored_by<A: Allocator + Copy>(
 fn put_stores<A: Allocator + Copy, W: Output>(
     scene: &Scene<A>,
     past: &Past<'_, '_, A>,
+    locations: &[Location],
     writer: &mut W,
 ) -> Result<bool, WriteFault> {
     let mut is_reported = false;
-    for location in &LOCATIONS {
+    for location in locations {
         if let Some(pc) = stored_by(scene, past, location.address) {
             let byte = byte_at(past.ended().machine(), location.address);
             put_change(scene, pc, byte, location, writer)?;
@@ -181,10 +191,11 @@ fn put_stores<A: Allocator + Copy, W: Output>(
 fn report_stores<A: Allocator + Copy, W: Output>(
     scene: &Scene<A>,
     past: &mut Past<'_, '_, A>,
+    locations: &[Location],
     writer: &mut W,
 ) -> Result<(), RunFault> {
-    let is_reported = put_stores(scene, past, writer)?
-        || (past.look_farther()? && put_stores(scene, past, writer)?);
+    let is_reported = put_stores(scene, past, locations, writer)?
+        || (past.look_farther()? && put_stores(scene, past, locations, writer)?);
     if is_reported {
         put(
             b"a2lab: a program can safely keep its own bytes below $20\n",
@@ -206,9 +217,9 @@ pub(crate) fn report_window<A: Allocator + Copy, W: Output>(
         return Ok(());
     };
     match row_of(service).needs {
-        Needs::Block | Needs::Across | Needs::Down => {
-            Ok(put_blocks(machine, row_of(service).needs, writer)?)
+        needs @ (Needs::Block | Needs::Across | Needs::Down) => {
+            Ok(put_blocks(machine, needs, writer)?)
         }
-        _ => report_stores(scene, past, writer),
+        needs => report_stores(scene, past, locations_of(needs), writer),
     }
 }

@@ -100,15 +100,16 @@ film-from text title chapters free program old new set limit few low cause outpu
 
 -- a finished run is filmed
 pub film-of : (text title : List ℕ) (chapters : List Chapter) (free : Bool) (program : Assembled) (f : Finished) (window : Window)
-    (again : Rerunning) → again ≡ record { run = f; steps = min window.from (end_of f).steps } → program ≡ f.program
-    → (cause : Cause) (output : List ℕ)
+    (again : Rerunning) → again ≡ record { run = f; steps = min window.from (end_of f).steps } → free ≡ f.free
+    → program ≡ f.program → (cause : Cause) (output : List ℕ)
     → IsFilm text title chapters free program again.steps (worlds_of again.run again.steps) (part_of again.run again.steps window.steps)
     cause output
-    → IsFilmOf text title chapters free f window cause output
-film-of text title chapters free program f window again begun same cause output film =
+    → IsFilmOf text title chapters f window cause output
+film-of text title chapters free program f window again begun guarded same cause output film =
     let from = min window.from (end_of f).steps in
-    let is : IsFilm text title chapters free f.program from (worlds_of f from) (part_of f from window.steps) cause output
-    = subst (λ (p : Assembled). IsFilm text title chapters free p from (worlds_of f from) (part_of f from window.steps) cause output) same
+    let is : IsFilm text title chapters f.free f.program from (worlds_of f from) (part_of f from window.steps) cause output
+    = subst (λ (b : Bool). IsFilm text title chapters b f.program from (worlds_of f from) (part_of f from window.steps) cause output) guarded
+    (subst (λ (p : Assembled). IsFilm text title chapters free p from (worlds_of f from) (part_of f from window.steps) cause output) same
     (subst (λ (r : Rerunning). IsFilm text title chapters free program r.steps (worlds_of r.run r.steps) (part_of r.run r.steps window.steps)
-    cause output) begun film) in
+    cause output) begun film)) in
     record { from = from; from_is = refl; cause_is = is.cause_is; output_is = is.output_is }

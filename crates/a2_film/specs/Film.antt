@@ -34,12 +34,12 @@ pub record IsFilmFrom (text title : List ℕ) (chapters : List Chapter) (free : 
   pub cause_is : cause ≡ part.cause
   pub output_is : output ≡ film_text title chapters text free program steps start part
 
--- the film of a window of a finished run, with the lines of a text, which says whether there was no guard. It begins after as many steps as the window says, or where the
--- run ends if it has fewer.
-pub record IsFilmOf (text title : List ℕ) (chapters : List Chapter) (free : Bool) (f : Finished) (window : Window) (cause : Cause) (output : List ℕ)
+-- the film of a window of a finished run, with the lines of a text. It begins after as many steps as the window says, or where the run
+-- ends if it has fewer.
+pub record IsFilmOf (text title : List ℕ) (chapters : List Chapter) (f : Finished) (window : Window) (cause : Cause) (output : List ℕ)
     : Type 0 where
   pub from : ℕ
   pub from_is : from ≡ min window.from (end_of f).steps
   pub cause_is : cause ≡ (part_of f from window.steps).cause
   pub output_is : output
-      ≡ film_text title chapters text free f.program from (worlds_of f from) (part_of f from window.steps)
+      ≡ film_text title chapters text f.free f.program from (worlds_of f from) (part_of f from window.steps)

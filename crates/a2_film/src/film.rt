@@ -57,8 +57,6 @@ pub struct Titles<'a> {
 pub struct FilmedRun<'e, 'a, A: Allocator = Global> {
     pub ended: &'e Ended<'a, A>,
     pub window: Window,
-    /// Whether the film says that the run had no guard of the program's code.
-    pub free: bool,
 }
 
 /// A run that is filmed from where a machine is.
@@ -344,19 +342,15 @@ pub fn film_source<A: Allocator + Copy, W: Output>(
     writer: &mut W,
 ) -> Result<Cause, RunFault>
     ensures meaning { Answers (λ _. ⊥) (IsFilmOf assembled.now.text titles.entry.title.now titles.entry.chapters.now
-        run.entry.free run.entry.ended.now run.entry.window) (W.taker writer.old) (W.taker writer.new) result }
+        run.entry.ended.now run.entry.window) (W.taker writer.old) (W.taker writer.new) result }
     ensures no_reader { is_read_fault result ≡ false }
 {
-    let FilmedRun {
-        ended,
-        window,
-        free,
-    } = run;
+    let FilmedRun { ended, window } = run;
     let mut again = Again::of(alloc, ended, window.from)?;
     let front = Front {
         titles,
         text: assembled.text(),
-        free,
+        free: ended.is_free(),
         program: ended.program(),
     };
     film_on(alloc, front, &mut again, window.steps, writer)

@@ -4,8 +4,6 @@ use Rattle.std.specs.Borrow.{Bor}
 use Rattle.std.proofs.Common.{sym, ap, ◌∙◌, arith, get_or, option_map}
 use Rattle.std.proofs.lemmas.List.{length-map, get_or-map, drop_more}
 use Rattle.std.proofs.lemmas.Option.{get_or_from_slice_get, slice_get-map, slice_get_within}
-use Rattle.a2_asm.specs.Values.{Names}
-use Rattle.a2_profile.specs.RoutineTable.{named, name_of}
 use Rattle.a2_asm.specs.declared.program.Statement.{Statement}
 use Rattle.a2_profile.specs.declared.profile.Count.{Count}
 use Rattle.a2_symbols.specs.Statements.{instruction_on}
@@ -39,21 +37,3 @@ rows-over row_of i left none = ap (rows_from row_of i) none
 pub never-next : (counts : List Count) (texts : List (List ℕ)) (statements : List Statement) (i : ℕ) (d : Statement) → i < length statements
     → never_rows counts texts (drop i statements) ≡ never_row counts texts (get_or statements i d) ++ never_rows counts texts (drop (i + 1) statements)
 never-next counts texts statements i d low = ap (λ (l : List Statement). never_rows counts texts l) (drop_more statements i d low)
-
--- the entry at an index of a map, found through another form of its elements
-pub entry-at : {X Y Z : Type 0} (see : X → Y) (f : Y → Z) (found : Option X) (x : X) (ys : List Y) (i : ℕ) → option_map see found ≡ slice_get ys i → found ≡ Some x
-    → slice_get (map f ys) i ≡ Some (f (see x))
-entry-at see f found x ys i lookup is = slice_get-map f ys i ∙ ap (option_map f) (sym lookup ∙ ap (option_map see) is)
-
--- the first name for an address, from an index on
-pub name-next : (names : Names) (address i : ℕ) (entry : List ℕ × ℕ) → slice_get names i ≡ Some entry
-    → name_of (drop i names) address ≡ (if entry.1 == address then entry.0 else name_of (drop (i + 1) names) address)
-name-next names address i entry is =
-    ap (λ (l : Names). name_of l address) (drop_more names i entry (slice_get_within names i entry is))
-    ∙ ap (λ (e : List ℕ × ℕ). name_of (e ∷ drop (i + 1) names) address) (get_or_from_slice_get names i entry entry is)
-    ∙ go (entry.1 == address)
-  where
-    go : (b : Bool) → named (if b then Some entry else find (λ e. e.1 == address) (drop (i + 1) names))
-        ≡ (if b then entry.0 else name_of (drop (i + 1) names) address)
-    go true = refl
-    go false = refl

@@ -14,13 +14,14 @@ use Rattle.a2_services.specs.World.{World}
 use Rattle.a2_machine.specs.Looks.{observer_after}
 use Rattle.a2_timed_keys.specs.Finished.{Finished, IsFinished}
 use Rattle.a2_timed_keys.specs.Rerun.{worlds_of, end_of, shown_in}
-use Rattle.a2_symbols.specs.declared.routines.Entry.{Entry}
-use Rattle.a2_symbols.specs.Routines.{is_jsr, is_call, entry_at, is_within, with_call, entered}
+use Rattle.a2_routines.specs.declared.routines.Entry.{Entry}
+use Rattle.a2_routines.specs.Routines.{is_jsr, is_call, entry_at, begin_of, is_within, with_call, entered}
+use Rattle.a2_routines.proofs.Along.{map-filter, map-push}
 use Rattle.a2_profile.specs.declared.walk.Frame.{Frame}
 use Rattle.a2_profile.specs.declared.walk.Totals.{Totals}
 use Rattle.a2_profile.specs.Run.{cost}
 use Rattle.a2_profile.specs.Totals.{itself, nothing, totals_at, own_steps_in, own_cycles_in}
-use Rattle.a2_profile.specs.Routines.{begin_of, around, is_in, is_own, is_entry, totals_of, IsRoutineProfile}
+use Rattle.a2_profile.specs.Routines.{around, is_in, is_own, is_entry, totals_of, IsRoutineProfile}
 use Rattle.a2_profile.specs.Seeing.{is_small}
 use Rattle.a2_profile.specs.Walks.{Walk, IsWalk, IsLow, most_steps, base, inner, depth_of, seen_at, counted, noted, opened, left_below, has_room, with_made, lost, shown_to, SeesAlike}
 use Rattle.a2_profile.specs.Walks as walks
@@ -57,19 +58,6 @@ frames-low worlds n s frames is at few = subst (IsLow s) (sym is) low
         let same : (slice_index_or (map (frame_of worlds) (entered worlds n)) k d).s ≡ (slice_index_or (entered worlds n) k e).s
         = ap (λ (f : Frame). f.s) (get_or-map (frame_of worlds) (entered worlds n) k e d within) in
         omega (arith, same, ltb-true (worlds n).registers.s (slice_index_or (entered worlds n) k e).s (entered-within worlds n k e within), at)
-
-pub map-filter : {X Y : Type 0} (g : X → Y) (p : X → Bool) (q : Y → Bool) → ((x : X) → q (g x) ≡ p x) → (xs : List X) → filter q (map g xs) ≡ map g (filter p xs)
-map-filter g p q alike [] = refl
-map-filter g p q alike (x ∷ xs) =
-    ap₂ (λ (b : Bool) (l : List _). if b then g x ∷ l else l) (alike x) (map-filter g p q alike xs) ∙ go (p x)
-  where
-    go : (b : Bool) → (if b then g x ∷ map g (filter p xs) else map g (filter p xs)) ≡ map g (if b then x ∷ filter p xs else filter p xs)
-    go true = refl
-    go false = refl
-
-pub map-push : {X Y : Type 0} (g : X → Y) (xs : List X) (x : X) → map g (xs ++ x ∷ []) ≡ map g xs ++ g x ∷ []
-map-push g [] x = refl
-map-push g (y ∷ xs) x = ap (λ (l : List _). g y ∷ l) (map-push g xs x)
 
 -- one more step
 pub frames-next : (worlds : ℕ → World) (n : ℕ) (old mid new : List Frame) (calls : Bool) (routine s now : ℕ) → old ≡ frames_of worlds n

@@ -14,7 +14,7 @@ use Rattle.a2_profile.specs.declared.walk.Totals.{Totals}
 use Rattle.a2_profile.specs.Counts.{count_at, steps_in, cycles_in}
 use Rattle.a2_profile.specs.Totals.{itself, totals_at, own_steps_in, own_cycles_in}
 use Rattle.a2_profile.specs.Table.{is_branch, is_outside, is_never_done}
-use Rattle.a2_profile.specs.RoutineTable.{name_of}
+use Rattle.a2_symbols.specs.Names.{name_of}
 
 -- a text between the quotes of a string
 unfoldable pub escapes : List ℕ → List ℕ

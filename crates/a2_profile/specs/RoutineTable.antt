@@ -1,11 +1,12 @@
 -- What is shown of a profile by routine: a row for the program itself and for each routine that was entered, and the sums. This
 -- project's profile.
-use Rattle.std.specs.Prelude.{ℕ, ◌==◌, List, [], ◌∷◌, ◌++◌, codes, find, Option, Some, None, if◌then◌else◌}
+use Rattle.std.specs.Prelude.{ℕ, ◌==◌, List, [], ◌∷◌, ◌++◌, codes, if◌then◌else◌}
 use Rattle.std.specs.List.{concat}
 use Rattle.std.specs.Fmt.{decimal}
 use Rattle.a2_text.specs.Digits.{hex_word}
 use Rattle.a2_asm.specs.Assembled.{Assembled}
 use Rattle.a2_asm.specs.Values.{Names}
+use Rattle.a2_symbols.specs.Names.{name_of}
 use Rattle.a2_profile.specs.declared.walk.Totals.{Totals}
 use Rattle.a2_profile.specs.Totals.{itself, totals_at, own_steps_in, own_cycles_in}
 use Rattle.a2_profile.specs.Table.{gap, before_text, share_digits, per_mille, rows_from, sum_line}
@@ -30,14 +31,6 @@ totals_row all times t label name =
 -- the row of the program itself, which is not entered
 abbrev pub itself_row : List Totals → List ℕ
 itself_row totals = totals_row (own_cycles_in totals) [] (totals_at totals itself) (codes "THE PROGRAM ITSELF") []
-
-abbrev pub named : Option (List ℕ × ℕ) → List ℕ
-named None = []
-named (Some entry) = entry.0
-
--- the first name with an address as its value, if there is one
-abbrev pub name_of : Names → ℕ → List ℕ
-name_of names address = named (find (λ entry. entry.1 == address) names)
 
 -- the row of a routine that was entered, with its address and its name
 abbrev pub routine_row : Names → List Totals → ℕ → List ℕ

@@ -8,15 +8,10 @@ use Rattle.a2_machine.specs.Meaning.{Code, End}
 use Rattle.a2_run.specs.Meaning.{code_of_run, start_of_run}
 use Rattle.a2_timed_keys.specs.declared.strokes.Typed.{Typed}
 use Rattle.a2_timed_keys.specs.Typed.{world_with_keys, IsTypedEnd}
-use Rattle.a2_symbols.specs.declared.routines.Entry.{Entry}
-use Rattle.a2_symbols.specs.Routines.{is_call, entered}
+use Rattle.a2_routines.specs.Routines.{is_call, begin_of, entered}
 use Rattle.a2_profile.specs.declared.walk.Totals.{Totals}
 use Rattle.a2_profile.specs.Run.{over_steps, is_at, cost}
 use Rattle.a2_profile.specs.Totals.{itself, totals_at, own_steps_in, own_cycles_in}
-
--- where a routine begins: at the address that its JSR went to
-abbrev pub begin_of : (ℕ → World) → Entry → ℕ
-begin_of worlds entry = (worlds (suc entry.position)).registers.pc
 
 -- what a step is executed in, the outermost first: the program itself, and the routines entered and not left
 abbrev pub around : (ℕ → World) → ℕ → List ℕ

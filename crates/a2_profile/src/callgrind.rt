@@ -4,14 +4,14 @@ ghost use Rattle.std.specs.Prelude.{◌≡◌, ◌==◌, ◌∷◌, if◌then◌
 ghost use Rattle.a2_text.specs.Digits.{hex_word as hex_word_of};
 ghost use Rattle.a2_stream.specs.Stream.{SendsOrBreaks};
 ghost use Rattle.a2_profile.specs.Callgrind as callgrind;
-ghost use Rattle.a2_profile.specs.RoutineTable.{name_of as name_at};
+ghost use Rattle.a2_symbols.specs.Names.{name_of as name_at};
 
 use crate::addresses::{ByAddress, put_each};
 use crate::table::is_outside;
-use crate::{Profile, RoutineProfile, Totals, name_of};
+use crate::{Profile, RoutineProfile, Totals};
 use a2_asm::{Program, Statement};
 use a2_stream::{Output, WriteFault, put, put_all};
-use a2_symbols::instruction_on;
+use a2_symbols::{instruction_on, name_of};
 use a2_text::{decimal, hex_word};
 use std::alloc::Allocator;
 

@@ -21,7 +21,7 @@ pub use callgrind::{write_callgrind, write_routine_callgrind};
 pub use json::{no_text_ends_its_string, write_json};
 pub use profile::{Count, Profile, ProfileFull};
 pub use routine_json::write_routine_json;
-pub use routine_table::{name_of, write_routines};
+pub use routine_table::write_routines;
 pub use routines::profile_routines;
 pub use run::profile_run;
 pub use runs::{Runs, first_stop, profile_routine_runs, profile_runs};

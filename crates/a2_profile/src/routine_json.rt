@@ -7,10 +7,11 @@ ghost use Rattle.a2_profile.specs.Json as json;
 
 use crate::json::{COMMA, put_causes, put_string, put_sums};
 use crate::profile::ADDRESSES;
-use crate::{RoutineProfile, Totals, name_of};
+use crate::{RoutineProfile, Totals};
 use a2_asm::{Names, Program};
 use a2_machine::Cause;
 use a2_stream::{Output, WriteFault, put, put_all};
+use a2_symbols::name_of;
 use a2_text::decimal;
 use std::alloc::Allocator;
 

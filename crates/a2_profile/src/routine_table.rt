@@ -1,15 +1,15 @@
 //! The table of a profile by routine.
 
-ghost use Rattle.std.specs.Prelude.{◌≡◌, ◌≤◌, string_bytes};
-ghost use Rattle.a2_asm.specs.Entries.{entries};
+ghost use Rattle.std.specs.Prelude.{◌≡◌, ◌≤◌};
 ghost use Rattle.a2_profile.specs.RoutineTable as table;
 ghost use Rattle.a2_stream.specs.Stream.{SendsOrBreaks};
 
 use crate::addresses::{ByAddress, put_each};
 use crate::table::{before_text, gap, per_mille, put_sum_line, share_digits};
 use crate::{RoutineProfile, Totals};
-use a2_asm::{Names, Program};
+use a2_asm::Program;
 use a2_stream::{Output, WriteFault, put_all};
+use a2_symbols::name_of;
 use a2_text::{decimal, hex_word};
 use std::alloc::Allocator;
 
@@ -112,21 +112,6 @@ fn put_itself<A: Allocator + Copy, W: Output>(
         b"",
         writer,
     )
-}
-
-/// Returns the first of these names with this address as its value, or nothing. This project's profile.
-pub fn name_of<A: Allocator + Copy>(names: &Names<A>, address: u16) -> &[u8]
-    ensures { result.now ≡ table.name_of (entries names.now) address }
-{
-    for index in 0..names.len() {
-        let Some((name, value)) = names.get_index(index) else {
-            return b"";
-        };
-        if *value == address {
-            return name.as_str().as_bytes();
-        }
-    }
-    b""
 }
 
 // The rows of the routines that were entered.

@@ -1,22 +1,25 @@
 -- A finished run that is executed again.
-use Rattle.std.proofs.Common.{◌≡◌, ◌≢◌, ◌⊎◌, inl, inr, ℕ, suc, ◌+◌, ◌<◌, ◌≤◌, List, [], ◌∷◌, length, refl, sym, ap, ap₂, ◌∙◌, subst, arith, Some, None}
+use Rattle.std.proofs.Common.{◌≡◌, ◌≢◌, ◌⊎◌, inl, inr, ℕ, suc, ◌+◌, ◌-◌, ◌<◌, ◌≤◌, List, [], ◌∷◌, length, refl, sym, ap, ap₂, ◌∙◌, subst, arith, Some, None}
 use Rattle.a2_asm.specs.Programs.{IsSound}
+use Rattle.a2_burst.specs.Shown.{Shown}
 use Rattle.a2_services.specs.World.{World}
 use Rattle.a2_machine.specs.ByteRun.{bytes}
 use Rattle.a2_machine.specs.declared.causes.Cause.{Cause}
 use Rattle.a2_machine.specs.declared.causes.Cause.TheVariants.{Limit}
+use Rattle.a2_machine.specs.Looks.{shown_between, observer_after}
 use Rattle.a2_machine.specs.Meaning.{Code, stuck, next}
 use Rattle.a2_machine.specs.State.{Device, MachineState, world_of_state, code_of, cause_of, IsStep}
 use Rattle.a2_machine.proofs.Making.{cause_none}
-use Rattle.a2_run.specs.Meaning.{start_of_run}
+use Rattle.a2_run.specs.Meaning.{code_of_run, start_of_run}
 use Rattle.a2_run.specs.Started.{guard_of_run}
 use Rattle.a2_timed_keys.specs.declared.strokes.Typed.{Typed}
-use Rattle.a2_timed_keys.specs.Typed.{keys_at, typed, with_keys, world_before_keys, world_with_keys, IsTypedStop, IsRunning}
+use Rattle.a2_timed_keys.specs.Typed.{keys_at, typed, with_keys, world_before_keys, world_with_keys, IsOverfull, IsTypedStop, IsRunning}
 use Rattle.a2_timed_keys.specs.Finished.{Finished, IsStopped}
-use Rattle.a2_timed_keys.specs.Rerun.{worlds_of, IsRerunning}
+use Rattle.a2_timed_keys.specs.Rerun.{shown_from, worlds_of, IsRerunning}
 use Rattle.a2_timed_keys.proofs.Worlds.{waiting, world-none, world-next, world-typed}
 use Rattle.a2_timed_keys.proofs.Running.{two, keys_hold, waiting_with, by_own_code, with_limit}
 use Rattle.a2_timed_keys.proofs.Meant.{world_meant}
+use Rattle.a2_timed_keys.proofs.Seeing.{alike}
 
 -- a run has few steps, for its limit is a number of 32 bits
 pub few_steps : (f : Finished) → IsStopped f → f.limit < 4294967296 → f.machine.state.steps < 4294967296
@@ -39,6 +42,18 @@ reaches code start log limit until last state why cause whole far part = go (two
     go (inl l) = absurd (stays l part.end.cause)
     go (inr l) = l
 
+-- a machine in the middle of a finished run is in the middle of a run of its own code with these keys
+own_again : (f : Finished) (log : List Typed) (until made : ℕ) (old : Device) → log ≡ f.log → made ≡ old.state.steps
+    → IsRunning (bytes (guard_of_run f.free f.program)) (start_of_run f.program f.keys) f.log until old.state.steps old
+    → IsRunning (code_of old.state) (start_of_run f.program f.keys) log until made old
+own_again f log until made old same begun at =
+    let code : Code = bytes (guard_of_run f.free f.program) in
+    let start : World = start_of_run f.program f.keys in
+    let own : IsRunning (code_of old.state) start f.log until old.state.steps old
+    = by_own_code code start f.log until until old.state.steps old at.within at in
+    subst (λ (n : ℕ). IsRunning (code_of old.state) start log until n old) (sym begun)
+    (subst (λ (l : List Typed). IsRunning (code_of old.state) start l until old.state.steps old) (sym same) own)
+
 -- a machine that ran on from the middle of a finished run is in the middle of it, after as many steps as were asked for
 pub came_again : (f : Finished) (log : List Typed) (until made : ℕ) (old new : Device) (cause : Cause) → IsStopped f → log ≡ f.log
     → made ≡ old.state.steps → until ≤ f.machine.state.steps
@@ -50,17 +65,50 @@ pub came_again : (f : Finished) (log : List Typed) (until made : ℕ) (old new :
 came_again f log until made old new cause stop same begun far at ran came =
     let code : Code = bytes (guard_of_run f.free f.program) in
     let start : World = start_of_run f.program f.keys in
-    let own : IsRunning (code_of old.state) start f.log until old.state.steps old
-    = by_own_code code start f.log until until old.state.steps old at.within at in
-    let given : IsRunning (code_of old.state) start log until made old
-    = subst (λ (n : ℕ). IsRunning (code_of old.state) start log until n old) (sym begun)
-    (subst (λ (l : List Typed). IsRunning (code_of old.state) start l until old.state.steps old) (sym same) own) in
+    let given : IsRunning (code_of old.state) start log until made old = own_again f log until made old same begun at in
     let part : IsTypedStop code start f.log until new.state cause
     = subst (λ (c : Code). IsTypedStop c start f.log until new.state cause) at.code_is
     (subst (λ (l : List Typed). IsTypedStop (code_of old.state) start l until new.state cause) same (ran start given)) in
     subst (λ (c : Code). IsRunning c start f.log until until new) at.code_is
     (subst (λ (l : List Typed). IsRunning (code_of old.state) start l until until new) same
     (came start given (reaches code start f.log f.limit until f.machine.state new.state f.cause cause stop far part)))
+
+-- its keys fit
+pub fitted_again : (f : Finished) (log : List Typed) (until made steps : ℕ) (old : Device) → IsStopped f → log ≡ f.log
+    → made ≡ old.state.steps → until ≤ f.machine.state.steps
+    → IsRunning (bytes (guard_of_run f.free f.program)) (start_of_run f.program f.keys) f.log until old.state.steps old
+    → ((start : World) → IsRunning (code_of old.state) start log until made old → IsOverfull (code_of old.state) start log until steps)
+    → keys_at log steps ≢ [] → ⊥
+fitted_again f log until made steps old stop same begun far at full some =
+    let start : World = start_of_run f.program f.keys in
+    let over : IsOverfull (bytes (guard_of_run f.free f.program)) start f.log until steps
+    = subst (λ (c : Code). IsOverfull c start f.log until steps) at.code_is
+    (subst (λ (l : List Typed). IsOverfull (code_of old.state) start l until steps) same (full start (own_again f log until made old same begun at))) in
+    let fits = stop.fit steps (omega (arith, over.within, far)) (subst (λ (l : List Typed). keys_at l steps ≢ []) same some) in
+    omega (arith, over.full, fits)
+
+-- an observer that saw the rest of the bytes' run has seen the rest of the program's run
+pub seen_again : {O : Type 0} (seen : O → Shown → O) (f : Finished) (log : List Typed) (until made : ℕ) (old new : Device) (first last : O)
+    → IsSound f.program → IsStopped f → log ≡ f.log → made ≡ old.state.steps → until ≡ f.machine.state.steps → new.state.steps ≡ until
+    → IsRunning (bytes (guard_of_run f.free f.program)) (start_of_run f.program f.keys) f.log until old.state.steps old
+    → ((start : World) → IsRunning (code_of old.state) start log until made old
+    → last ≡ observer_after seen (shown_from (world_with_keys (code_of old.state) start log) made) first (new.state.steps - made))
+    → last ≡ observer_after seen (shown_from (worlds_of f) old.state.steps) first (f.machine.state.steps - old.state.steps)
+unfolding worlds_of
+seen_again {O} seen f log until made old new first last sound stop same begun ends came at saw =
+    let code : Code = bytes (guard_of_run f.free f.program) in
+    let start : World = start_of_run f.program f.keys in
+    let worlds : ℕ → World = world_with_keys code start f.log in
+    let means : ℕ → World = world_with_keys (code_of_run f.free f.program) start f.log in
+    let steps : ℕ = old.state.steps in
+    let rest : ℕ = f.machine.state.steps - old.state.steps in
+    let left : new.state.steps - made ≡ rest = omega (arith, came, ends, begun) in
+    saw start (own_again f log until made old same begun at)
+    ∙ ap₂ (λ (c : Code) (l : List Typed). observer_after seen (shown_from (world_with_keys c start l) made) first (new.state.steps - made)) at.code_is same
+    ∙ ap₂ (λ (m n : ℕ). observer_after seen (shown_from worlds m) first n) begun left
+    ∙ alike seen (shown_from worlds steps) (shown_from means steps) first rest (λ j l. ap₂ (λ (a b : World). shown_between a b)
+    (world_meant f.free f.program f.keys f.log (steps + j) sound (λ k h. stop.end.first k (omega (arith, h, l))))
+    (world_meant f.free f.program f.keys f.log (suc (steps + j)) sound (λ k h. stop.end.first k (omega (arith, h, l)))))
 
 -- with the steps of the next keys
 pub rerunning : (f : Finished) (log : List Typed) (until end due : ℕ) (machine : Device) → log ≡ f.log → end ≡ f.machine.state.steps → until ≤ end

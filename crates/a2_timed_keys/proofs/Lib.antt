@@ -6,5 +6,4 @@ pub mod Meant
 pub mod Seeing
 pub mod EndLaws
 pub mod Again
-pub mod ViewLaws
 pub mod Written

@@ -1,5 +1,5 @@
 -- A finished run that is executed again. This project's profile.
-use Rattle.std.specs.Prelude.{◌≡◌, ℕ, suc, ◌<◌, ◌≤◌, []}
+use Rattle.std.specs.Prelude.{◌≡◌, ℕ, suc, ◌+◌, ◌<◌, ◌≤◌, []}
 use Rattle.a2_burst.specs.Shown.{Shown}
 use Rattle.a2_services.specs.World.{World}
 use Rattle.a2_machine.specs.ByteRun.{bytes}
@@ -22,6 +22,10 @@ end_of f = record { world = world_of_state f.machine.state; steps = f.machine.st
 -- what an observer is shown of a step of a run with these worlds, counted from 0
 abbrev pub shown_in : (ℕ → World) → ℕ → Shown
 shown_in worlds n = shown_between (worlds n) (worlds (suc n))
+
+-- the same if its first steps, as many as `first`, were not shown
+abbrev pub shown_from : (ℕ → World) → ℕ → ℕ → Shown
+shown_from worlds first n = shown_in worlds (first + n)
 
 -- a finished run, and how many of its steps were executed again
 pub record Rerunning : Type 0 where

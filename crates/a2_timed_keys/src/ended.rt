@@ -164,12 +164,13 @@ impl<'a, A: Allocator + Copy> Ended<'a, A> {
         ensures { IfOk result (λ machine. IsRunning (bytes (guard_of_run self.now.free self.now.program))
             (start_of_run self.now.program self.now.keys) self.now.log until machine.state.steps machine) }
     {
-        let run = self.args.run;
-        let mut machine = started(alloc, self.program, run.keys, run.free)?;
         if let Some(copy) = self.earlier.newest(until) {
+            let mut machine = Machine::new(alloc)?;
             machine.copy_from(copy);
             return Ok(machine);
         }
+        let run = self.args.run;
+        let mut machine = started(alloc, self.program, run.keys, run.free)?;
         if type_due(&mut machine, self.args.strokes.as_slice(), 0) {
             Ok(machine)
         } else {
@@ -236,6 +237,13 @@ impl<'a, A: Allocator + Copy> Ended<'a, A> {
         ensures few { self.now.machine.state.steps < 4_294_967_296 }
     {
         let _ = &self.machine;
+    }
+
+    /// Returns whether the program ran without the guard of its code.
+    pub fn is_free(&self) -> bool
+        ensures { result ≡ self.now.free }
+    {
+        self.args.run.free
     }
 
     /// Returns the keys that were to be typed on the way.

@@ -10,7 +10,6 @@ mod ended;
 mod record;
 mod rerun;
 mod run;
-mod shown;
 mod strokes;
 mod words;
 
@@ -18,8 +17,7 @@ pub use ended::{Ended, TimedArgs};
 pub use record::{Record, RecordFault, put_record, record_of};
 pub use rerun::Rerun;
 pub use run::TypedFault;
-pub use shown::show;
-pub use strokes::{Strokes, Typed};
+pub use strokes::{Strokes, Typed, next_due};
 pub use words::{StrokeFault, stroke_in};
 
 /// A run in which no key is typed is the run of `a2_machine`, with every limit.

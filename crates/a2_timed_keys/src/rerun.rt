@@ -1,13 +1,15 @@
 //! A finished run that is executed again.
 
-ghost use Rattle.std.specs.Prelude.{◌≡◌, ◌<◌, ◌≤◌, [], ℕ, suc, min, true, false, IfOk};
+ghost use Rattle.std.specs.Prelude.{◌≡◌, ◌-◌, ◌<◌, ◌≤◌, [], ℕ, suc, min, true, false, IfOk};
+ghost use Rattle.a2_machine.specs.Looks.{observer_after};
 ghost use Rattle.a2_machine.specs.State.{world_of_state};
 ghost use Rattle.a2_timed_keys.specs.Typed.{keys_at};
-ghost use Rattle.a2_timed_keys.specs.Rerun.{worlds_of, end_of};
+ghost use Rattle.a2_timed_keys.specs.Rerun.{worlds_of, end_of, shown_from};
 
 use crate::ended::Ended;
-use crate::run::{next_due, run_on};
+use crate::run::{due_within, run_on, run_on_observed};
 use crate::strokes::{Typed, type_due};
+use a2_burst::Observer;
 use a2_machine::Machine;
 use std::alloc::{AllocError, Allocator, Global};
 use std::marker::Model;
@@ -50,7 +52,7 @@ fn due_after(typed: &[Typed], made: u32, end: u32) -> u32
     ensures none { (k : ℕ) → made < k → k < result → keys_at typed.now k ≡ [] }
 {
     if made < end {
-        next_due(typed, made, end)
+        due_within(typed, made, end)
     } else {
         end
     }
@@ -120,5 +122,24 @@ impl<'e, 'a, A: Allocator + Copy> Rerun<'e, 'a, A> {
             self.due = due_after(typed, self.due, end as u32);
         }
         true
+    }
+
+    /// Executes the rest of the run, types its keys after their steps, and shows each step to `observer`.
+    pub fn finish<O: Observer>(&mut self, observer: &mut O)
+        ensures ended { self.new ≡ record self.old { steps = (end_of self.old.run).steps } }
+        ensures seen { observer.new ≡ observer_after O.seen (shown_from (worlds_of self.old.run) self.old.steps)
+            observer.old ((end_of self.old.run).steps - self.old.steps) }
+    {
+        // For the prover alone: laws of every run and of every program, by which the guarded bytes run as its statements.
+        self.ended.is_stopped();
+        self.ended.program().is_sound();
+        let end = self.ended.machine().steps() as u32;
+        let made = self.machine.steps() as u32;
+        let typed = self.ended.strokes().as_slice();
+        match run_on_observed(&mut self.machine, typed, made, end, observer) {
+            Ok(_) => {}
+            // They fitted in the run.
+            Err(_) => unreachable!(),
+        }
     }
 }

@@ -1,13 +1,13 @@
 //! Runs in which keys are typed.
 
-ghost use Rattle.std.specs.Prelude.{◌≡◌, ◌+◌, ◌<◌, ◌≤◌, ◌^◌, ◌∷◌, [], ℕ, All, IfOk, IfErr};
+ghost use Rattle.std.specs.Prelude.{◌≡◌, ◌≢◌, ◌-◌, ◌<◌, ◌≤◌, [], ℕ, All, IfOk, IfErr};
 ghost use Rattle.a2_services.specs.World.{World};
 ghost use Rattle.a2_machine.specs.Looks.{observer_after};
 ghost use Rattle.a2_machine.specs.State.{code_of, world_of_state};
-ghost use Rattle.a2_timed_keys.specs.Rerun.{shown_in};
+ghost use Rattle.a2_timed_keys.specs.Rerun.{shown_in, shown_from};
 ghost use Rattle.a2_timed_keys.specs.Typed.{keys_at, world_with_keys, IsOverfull, IsRunning, IsTypedStop};
 
-use crate::strokes::{Typed, type_due};
+use crate::strokes::{Typed, next_due, type_due};
 use a2_burst::Observer;
 use a2_machine::{Cause, Machine};
 use std::alloc::{AllocError, Allocator};
@@ -31,34 +31,14 @@ impl From<AllocError> for TypedFault {
     }
 }
 
-// Returns the steps of a key if they are more than `made` and fewer than `until`, and otherwise `until`.
-fn sooner(stroke: Typed, made: u32, until: u32) -> u32
-    requires { made < until }
-    ensures more { made < result }
-    ensures within { result ≤ until }
-    ensures none { (k : ℕ) → made < k → k < result → keys_at (stroke ∷ []) k ≡ [] }
-{
-    if stroke.steps <= u64::from(made) {
-        return until;
-    }
-    if stroke.steps >= u64::from(until) {
-        return until;
-    }
-    stroke.steps as u32
-}
-
 /// Returns the greatest number of steps, more than `made` and at most `limit`, before which no key is typed.
-pub(crate) fn next_due(typed: &[Typed], made: u32, limit: u32) -> u32
+pub(crate) fn due_within(typed: &[Typed], made: u32, limit: u32) -> u32
     requires { made < limit }
     ensures more { made < result }
     ensures within { result ≤ limit }
     ensures none { (k : ℕ) → made < k → k < result → keys_at typed.now k ≡ [] }
 {
-    let mut until = limit;
-    for stroke in typed {
-        until = sooner(*stroke, made, until);
-    }
-    until
+    next_due(typed, u64::from(made), u64::from(limit)) as u32
 }
 
 /// Runs a machine on that has executed `begun` steps since its start, with the keys of these steps typed, and types keys after
@@ -83,8 +63,49 @@ pub(crate) fn run_on<A: Allocator + Copy>(
 {
     let mut made = begun;
     while made < limit {
-        let until = next_due(typed, made, limit);
+        let until = due_within(typed, made, limit);
         let cause = machine.run(until - made);
+        let due = u64::from(until);
+        if machine.steps() < due {
+            return Ok(cause);
+        }
+        if !type_due(machine, typed, due) {
+            return Err(due);
+        }
+        made = until;
+    }
+    Ok(machine.run(0))
+}
+
+/// Runs a machine on as [`run_on`] does, and shows each step to `observer`.
+pub(crate) fn run_on_observed<A: Allocator + Copy, O: Observer>(
+    machine: &mut Machine<A>,
+    typed: &[Typed],
+    begun: u32,
+    limit: u32,
+    observer: &mut O,
+) -> Result<Cause, u64>
+    requires codes { All (λ t. t.key < 128) typed.now }
+    ensures stopped { IfOk result (λ cause. (start : World)
+        → IsRunning (code_of machine.old.state) start typed.now limit begun machine.old
+        → IsTypedStop (code_of machine.old.state) start typed.now limit machine.new.state cause) }
+    ensures came { IfOk result (λ _. (start : World)
+        → IsRunning (code_of machine.old.state) start typed.now limit begun machine.old
+        → limit ≤ machine.new.state.steps → IsRunning (code_of machine.old.state) start typed.now limit limit machine.new) }
+    ensures full { IfErr result (λ steps. (start : World)
+        → IsRunning (code_of machine.old.state) start typed.now limit begun machine.old
+        → IsOverfull (code_of machine.old.state) start typed.now limit steps) }
+    ensures some { IfErr result (λ steps. keys_at typed.now steps ≢ []) }
+    ensures seen { IfOk result (λ _. (start : World)
+        → IsRunning (code_of machine.old.state) start typed.now limit begun machine.old
+        → observer.new ≡ observer_after O.seen
+        (shown_from (world_with_keys (code_of machine.old.state) start typed.now) begun)
+        observer.old (machine.new.state.steps - begun)) }
+{
+    let mut made = begun;
+    while made < limit {
+        let until = due_within(typed, made, limit);
+        let cause = machine.run_observed(until - made, observer);
         let due = u64::from(until);
         if machine.steps() < due {
             return Ok(cause);
@@ -116,21 +137,8 @@ pub(crate) fn run_observed<A: Allocator + Copy, O: Observer>(
     // For the prover alone: a caller has the number in a field, whose range is not known there.
     ensures range { limit < 4_294_967_296 }
 {
-    let mut made = 0;
     if !type_due(machine, typed, 0) {
         return Err(0);
     }
-    while made < limit {
-        let until = next_due(typed, made, limit);
-        let cause = machine.run_observed(until - made, observer);
-        let due = u64::from(until);
-        if machine.steps() < due {
-            return Ok(cause);
-        }
-        if !type_due(machine, typed, due) {
-            return Err(due);
-        }
-        made = until;
-    }
-    Ok(machine.run(0))
+    run_on_observed(machine, typed, 0, limit, observer)
 }

@@ -1,6 +1,6 @@
 //! Keys that are typed after given steps.
 
-ghost use Rattle.std.specs.Prelude.{◌≡◌, ◌+◌, ◌<◌, ◌≤◌, ◌++◌, ◌∷◌, [], true, false, All, length, OnOk};
+ghost use Rattle.std.specs.Prelude.{◌≡◌, ◌+◌, ◌<◌, ◌≤◌, ◌++◌, ◌∷◌, [], ℕ, true, false, All, length, OnOk};
 ghost use Rattle.a2_timed_keys.specs.Typed.{keys_at, typed_after, with_keys};
 
 use a2_bus::Keys;
@@ -85,6 +85,36 @@ pub(crate) fn type_due<A: Allocator + Copy>(
     true
 }
 
+// Returns the steps of a key if they are more than `made` and fewer than `until`, and otherwise `until`.
+fn sooner(stroke: Typed, made: u64, until: u64) -> u64
+    requires { made < until }
+    ensures more { made < result }
+    ensures within { result ≤ until }
+    ensures none { (k : ℕ) → made < k → k < result → keys_at (stroke ∷ []) k ≡ [] }
+{
+    if stroke.steps <= made {
+        return until;
+    }
+    if stroke.steps >= until {
+        return until;
+    }
+    stroke.steps
+}
+
+/// Returns the greatest number of steps, more than `made` and at most `end`, before which no key is typed.
+pub fn next_due(typed: &[Typed], made: u64, end: u64) -> u64
+    requires { made < end }
+    ensures more { made < result }
+    ensures within { result ≤ end }
+    ensures none { (k : ℕ) → made < k → k < result → keys_at typed.now k ≡ [] }
+{
+    let mut until = end;
+    for stroke in typed {
+        until = sooner(*stroke, made, until);
+    }
+    until
+}
+
 impl<A: Allocator + Copy> Strokes<A> {
     /// Returns an empty list.
     pub fn new(alloc: A) -> Strokes<A>
@@ -118,16 +148,5 @@ impl<A: Allocator + Copy> Strokes<A> {
         ensures codes { All (λ t. t.key < 128) self.now }
     {
         self.typed.as_slice()
-    }
-
-    /// Types at a machine the keys of the steps that it has executed since its start, if there is room for all of them. Returns
-    /// whether there was.
-    pub fn type_due<B: Allocator + Copy>(&self, machine: &mut Machine<B>) -> bool
-        ensures typed { result ≡ true → machine.new ≡ with_keys (keys_at self.now machine.old.state.steps) machine.old }
-        ensures full { result ≡ false → 4096 < length machine.old.state.bus.devices.keys + length
-            (keys_at self.now machine.old.state.steps) }
-    {
-        let steps = machine.steps();
-        type_due(machine, self.typed.as_slice(), steps)
     }
 }

@@ -12,12 +12,12 @@ returns-clause-meaning g c =
     let again = c.in_ok-again.again.rerun in
     rw c.text.ensures at
     (film-answers (λ _. ⊥)
-    (IsFilm c.text.result.now c.args.titles.title.now c.args.titles.chapters.now c.args.run.free c.program.result.now
+    (IsFilm c.text.result.now c.args.titles.title.now c.args.titles.chapters.now c.is_free.result c.program.result.now
     again.steps (worlds_of again.run again.steps) (part_of again.run again.steps c.args.run.window.steps))
-    (IsFilmOf c.text.result.now c.args.titles.title.now c.args.titles.chapters.now c.args.run.free c.args.run.ended.now c.args.run.window)
+    (IsFilmOf c.text.result.now c.args.titles.title.now c.args.titles.chapters.now c.args.run.ended.now c.args.run.window)
     (g.W.Output.taker c.args.writer.now) (g.W.Output.taker c.film_on.new.writer) c.film_on.result
-    (film-of c.text.result.now c.args.titles.title.now c.args.titles.chapters.now c.args.run.free c.program.result.now c.args.run.ended.now
-    c.args.run.window again c.in_ok-again.ensures c.program.ensures)
+    (film-of c.text.result.now c.args.titles.title.now c.args.titles.chapters.now c.is_free.result c.program.result.now c.args.run.ended.now
+    c.args.run.window again c.in_ok-again.ensures c.is_free.ensures c.program.ensures)
     c.film_on.ensures.meaning)
 
 pub returns-in_err-again-clause-meaning : goal.returns-in_err-again-clause-meaning

@@ -9,27 +9,27 @@ loop-made-init g c = λ start at. at
 pub returns-then-steps-due-clause-stopped : goal.returns-then-steps-due-clause-stopped
 returns-then-steps-due-clause-stopped g c = λ start at.
     stopped (code_of c.args.machine.now.state) start c.args.typed.now c.args.limit c.loop-made.made
-    c.next_due-until.result c.loop-made.machine c.run-cause.new.self c.run-cause.result c.ranges.limit.fits c.next_due-until.ensures.more
-    c.next_due-until.ensures.within c.next_due-until.ensures.none c.run-cause.ensures (c.loop-made.invariant start at)
+    c.due_within-until.result c.loop-made.machine c.run-cause.new.self c.run-cause.result c.ranges.limit.fits c.due_within-until.ensures.more
+    c.due_within-until.ensures.within c.due_within-until.ensures.none c.run-cause.ensures (c.loop-made.invariant start at)
     (omega (arith, c.if-steps-due.true, c.steps.ensures, c.from-due.ensures))
 
 pub returns-then-steps-due-clause-came : goal.returns-then-steps-due-clause-came
 returns-then-steps-due-clause-came g c = λ start at past.
-    absurd (omega (arith, past, c.next_due-until.ensures.within, c.if-steps-due.true, c.steps.ensures, c.from-due.ensures))
+    absurd (omega (arith, past, c.due_within-until.ensures.within, c.if-steps-due.true, c.steps.ensures, c.from-due.ensures))
 
 pub returns-then-not-type_due-clause-full : goal.returns-then-not-type_due-clause-full
 returns-then-not-type_due-clause-full g c = λ start at.
     overfull_on (code_of c.args.machine.now.state) start c.args.typed.now c.args.limit c.loop-made.made
-    c.next_due-until.result c.loop-made.machine c.run-cause.new.self c.run-cause.result c.ranges.limit.fits c.next_due-until.ensures.more
-    c.next_due-until.ensures.within c.next_due-until.ensures.none c.run-cause.ensures (c.loop-made.invariant start at)
+    c.due_within-until.result c.loop-made.machine c.run-cause.new.self c.run-cause.result c.ranges.limit.fits c.due_within-until.ensures.more
+    c.due_within-until.ensures.within c.due_within-until.ensures.none c.run-cause.ensures (c.loop-made.invariant start at)
     c.from-due.result c.from-due.ensures (omega (arith, c.if-steps-due.false, c.steps.ensures))
     (c.type_due.ensures.full c.if-not-type_due.true)
 
 pub loop-made-preserved : goal.loop-made-preserved
 loop-made-preserved g c = λ start at.
     running_on (code_of c.args.machine.now.state) start c.args.typed.now c.args.limit c.loop-made.made
-    c.next_due-until.result c.loop-made.machine c.run-cause.new.self c.run-cause.result c.ranges.limit.fits c.next_due-until.ensures.more
-    c.next_due-until.ensures.within c.next_due-until.ensures.none c.run-cause.ensures (c.loop-made.invariant start at)
+    c.due_within-until.result c.loop-made.machine c.run-cause.new.self c.run-cause.result c.ranges.limit.fits c.due_within-until.ensures.more
+    c.due_within-until.ensures.within c.due_within-until.ensures.none c.run-cause.ensures (c.loop-made.invariant start at)
     c.type_due.new.machine c.from-due.result c.from-due.ensures (omega (arith, c.if-steps-due.false, c.steps.ensures))
     (c.type_due.ensures.typed c.if-not-type_due.false) (c.type_due.ensures.room c.if-not-type_due.false)
 

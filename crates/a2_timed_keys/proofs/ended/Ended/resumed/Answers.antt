@@ -24,11 +24,11 @@ type_due-requires g c = rw c.as_slice.ensures.keys c.as_slice.ensures.codes
 
 pub returns-then-type_due : goal.returns-then-type_due
 returns-then-type_due g c =
-    let old = c.in_ok-machine.machine in
+    let old = c.in_ok-machine-2.machine in
     let new = c.type_due.new.machine in
     let e = c.self.inside in
     subst (λ (f : Finished). IsRunning (bytes (guard_of_run f.free f.program)) (start_of_run f.program f.keys) f.log c.args.until new.state.steps new)
     c.self.view_is
-    (running_of e.program.now e.args.run.keys.now e.args.strokes.now c.args.until e.args.run.free old new c.in_ok-machine.ensures
+    (running_of e.program.now e.args.run.keys.now e.args.strokes.now c.args.until e.args.run.free old new c.in_ok-machine-2.ensures
     (subst (λ (l : List Typed). new ≡ with_keys (keys_at l 0) old) c.as_slice.ensures.keys (c.type_due.ensures.typed c.if-type_due.true))
     (c.type_due.ensures.room c.if-type_due.true))

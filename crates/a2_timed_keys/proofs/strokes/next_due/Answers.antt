@@ -1,6 +1,6 @@
 use Rattle.std.proofs.Common.{arith}
 use Rattle.a2_timed_keys.proofs.Keys.{none_more}
-use Rattle.a2_timed_keys.proofs.run.next_due.Goals as goal
+use Rattle.a2_timed_keys.proofs.strokes.next_due.Goals as goal
 
 pub loop-stroke-preserved : goal.loop-stroke-preserved
 loop-stroke-preserved c = record {

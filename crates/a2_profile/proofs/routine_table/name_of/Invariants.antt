@@ -1,8 +1,0 @@
-use Rattle.std.proofs.Common.{◌≡◌, drop}
-use Rattle.a2_asm.specs.Entries.{entries}
-use Rattle.a2_profile.specs.RoutineTable.{name_of}
-use Rattle.a2_profile.proofs.routine_table.name_of.Given as goal
-
--- none of the names so far is a name of the address
-abbrev pub invariant-loop-index : goal.invariant-loop-index
-invariant-loop-index g l = name_of (drop l.index (entries l.names)) l.address ≡ name_of (entries l.names) l.address
