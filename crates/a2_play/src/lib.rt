@@ -12,6 +12,7 @@ mod panel;
 mod player;
 mod replayed_run;
 mod session;
+mod speaker;
 mod spelling;
 
 pub use clock::Clock;

@@ -7,6 +7,7 @@ ghost use Rattle.a2_play.specs.Played.{IsPlayed, IsStuckBy, after_key};
 
 use crate::replayed_run::{begin, bring, seek, type_at};
 use a2_asm::Program;
+use a2_burst::{NoObserver, Observer};
 use a2_cpu::Breakpoints;
 use a2_machine::{Cause, Machine, Stop};
 use a2_timed_keys::Typed;
@@ -149,14 +150,14 @@ impl<A: Allocator + Copy> Player<A> {
         }
     }
 
-    // Runs at most `steps` steps, 1 or more, but only up to a call of WAIT. Returns the same as `run`.
-    fn run_to_wait(&mut self, steps: u32) -> Option<Cause>
+    // Runs at most `steps` steps, 1 or more, but only up to a call of WAIT. `observer` sees each step. Returns the same as `run`.
+    fn run_to_wait<O: Observer>(&mut self, steps: u32, observer: &mut O) -> Option<Cause>
         ensures log { self.new.log ≡ self.old.log }
         ensures stuck { IsStuckBy self.new.machine.state result }
         ensures played { (program : Assembled) → IsPlayed program self.old → IsPlayed program self.new }
     {
         let before = self.machine.steps();
-        match self.machine.run_to(steps, &AtWait) {
+        match self.machine.run_to_observed(steps, &AtWait, observer) {
             Stop::Breakpoint => None,
             Stop::Cause(Cause::Limit) if self.machine.steps() > before => None,
             Stop::Cause(cause) => Some(cause),
@@ -179,12 +180,21 @@ impl<A: Allocator + Copy> Player<A> {
         ensures stuck { IsStuckBy self.new.machine.state result }
         ensures played { (program : Assembled) → IsPlayed program self.old → IsPlayed program self.new }
     {
+        self.run_to_observed(cycles, &mut NoObserver)
+    }
+
+    /// Runs as `run_to` does, and returns what it returns. `observer` sees each step as it is executed, including calls of services.
+    pub fn run_to_observed<O: Observer>(&mut self, cycles: u64, observer: &mut O) -> Option<Cause>
+        ensures log { self.new.log ≡ self.old.log }
+        ensures stuck { IsStuckBy self.new.machine.state result }
+        ensures played { (program : Assembled) → IsPlayed program self.old → IsPlayed program self.new }
+    {
         for _ in 0..MOST_RUNS {
             if self.machine.cycles() >= cycles {
                 return None;
             }
             let steps = self.steps_to(cycles);
-            if let Some(cause) = self.run_to_wait(steps) {
+            if let Some(cause) = self.run_to_wait(steps, observer) {
                 return Some(cause);
             }
         }

@@ -12,7 +12,7 @@ use crate::player::PIECE_MAX_STEPS;
 use a2_asm::Program;
 use a2_bus::Keys;
 use a2_machine::Machine;
-use a2_timed_keys::Typed;
+use a2_timed_keys::{Typed, next_due};
 use std::alloc::Allocator;
 
 /// Types a key if there is room, and returns whether there was.
@@ -53,36 +53,6 @@ fn type_due<A: Allocator + Copy>(machine: &mut Machine<A>, log: &[Typed], steps:
     for stroke in log {
         type_stroke(machine, *stroke, steps);
     }
-}
-
-// Returns the steps of a key if they are above `made` and below `until`, otherwise `until`.
-fn sooner(stroke: Typed, made: u64, until: u64) -> u64
-    requires { made < until }
-    ensures more { made < result }
-    ensures within { result ≤ until }
-    ensures none { (k : ℕ) → made < k → k < result → keys_at (stroke ∷ []) k ≡ [] }
-{
-    if stroke.steps <= made {
-        return until;
-    }
-    if stroke.steps >= until {
-        return until;
-    }
-    stroke.steps
-}
-
-// Returns the number of steps, above `made` and at most `end`, up to which no key was typed.
-fn next_due(log: &[Typed], made: u64, end: u64) -> u64
-    requires { made < end }
-    ensures more { made < result }
-    ensures within { result ≤ end }
-    ensures none { (k : ℕ) → made < k → k < result → keys_at log.now k ≡ [] }
-{
-    let mut until = end;
-    for stroke in log {
-        until = sooner(*stroke, made, until);
-    }
-    until
 }
 
 // Continues a replay: types the keys that belong to the current position, and runs to the next position with keys, or

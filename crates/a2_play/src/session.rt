@@ -8,12 +8,13 @@ use crate::Clock;
 use crate::pace::{Pace, SECOND, due, second};
 use crate::panel::{PanelContents, State, TerminalSize, put_counts, put_panel};
 use crate::player::Player;
-use a2_explain::report_stop;
+use crate::speaker::Speaker;
 use a2_machine::Cause;
 use a2_run::{AssembledText, RunFault};
-use a2_stream::{Input, Output, ToWrite, put};
+use a2_stream::{Input, Output, ToWrite, WriteFault, put};
+use a2_symbols::report_stop;
 use a2_tty::{Colours, Order, Shot, Stroke, first_stroke, put_changes};
-use std::alloc::Global;
+use std::alloc::{AllocError, Global};
 use std::marker::Model;
 
 /// The shortest time between two draws, and between two checks for keys at `Pace::Max`: a thirtieth of a second.
@@ -79,6 +80,8 @@ pub struct Session<'a> {
     face: Option<PanelContents>,
     /// The number of steps for which the counts were last drawn.
     counted: Option<u64>,
+    /// What notes the moves of the speaker, if they are reported.
+    speaker: Option<Speaker>,
 }
 
 // Not derived, only for the prover: it sees this as one call, but a derived `Drop` field by field.
@@ -104,6 +107,7 @@ impl<'a> Drop for Session<'a> {
             shot: _,
             face: _,
             counted: _,
+            speaker: _,
         } = self;
     }
 }
@@ -153,6 +157,7 @@ impl<'a> Session<'a> {
             shot: None,
             face: None,
             counted: None,
+            speaker: None,
         }
     }
 
@@ -184,6 +189,24 @@ impl<'a> Session<'a> {
         self.notice = Some(notice);
     }
 
+    /// Reports from now on, before each draw, when the speaker moves. At `Pace::Max` nothing is reported. Fails only if memory is
+    /// short.
+    pub fn listen(&mut self, alloc: Global) -> Result<(), AllocError>
+        ensures { self.new ≡ self.old }
+    {
+        if self.pace != Pace::Max {
+            self.speaker = Some(Speaker::new(alloc, self.player.machine())?);
+        }
+        Ok(())
+    }
+
+    // Forgets how the speaker moved since the last draw.
+    fn forget_moves(&mut self) {
+        if let Some(speaker) = &mut self.speaker {
+            speaker.forget();
+        }
+    }
+
     // Forgets what is drawn, so that everything is drawn again.
     fn forget(&mut self) {
         self.shot = None;
@@ -194,6 +217,7 @@ impl<'a> Session<'a> {
     // Begins again, with no key typed.
     fn restart(&mut self) {
         self.player.restart(self.assembled.program());
+        self.forget_moves();
         self.goal = 0;
         self.state = State::Going;
     }
@@ -202,6 +226,7 @@ impl<'a> Session<'a> {
     fn go_back(&mut self) {
         self.player
             .go_back(self.assembled.program(), second(self.pace));
+        self.forget_moves();
         self.goal = self.player.machine().cycles();
         self.state = match self.state {
             State::Going | State::Waiting => State::Going,
@@ -274,6 +299,17 @@ impl<'a> Session<'a> {
         Ok(())
     }
 
+    // Runs to the goal.
+    fn run_to_goal(&mut self) -> Option<Cause> {
+        match &mut self.speaker {
+            Some(speaker) => {
+                speaker.attend(self.player.machine());
+                self.player.run_to_observed(self.goal, speaker)
+            }
+            None => self.player.run_to(self.goal),
+        }
+    }
+
     // Runs the cycles that are due.
     fn go_on(&mut self, now: u64) {
         let late = now.saturating_sub(self.reckoned);
@@ -281,7 +317,7 @@ impl<'a> Session<'a> {
         match self.state {
             State::Going | State::Waiting => {
                 self.goal = self.goal.saturating_add(due(self.pace, late));
-                let cause = self.player.run_to(self.goal);
+                let cause = self.run_to_goal();
                 self.note(cause, State::Going, State::Waiting);
             }
             State::Paused | State::Stopped(_) => {}
@@ -375,6 +411,15 @@ fn put_steps<W: Output>(
     Ok(())
 }
 
+// Writes when the speaker moved since the last draw.
+fn put_moves<W: Output>(session: &mut Session<'_>, writer: &mut W) -> Result<(), WriteFault> {
+    let rate = second(session.pace);
+    match &mut session.speaker {
+        Some(speaker) => speaker.report(rate, writer),
+        None => Ok(()),
+    }
+}
+
 // Writes the cells that changed in one piece, so that a terminal never shows half of them.
 fn draw<W: Output>(
     alloc: Global,
@@ -387,6 +432,7 @@ fn draw<W: Output>(
     let mut frame = Vec::new(alloc);
     let mut writer = ToWrite::new(&mut frame);
     session.measure_speed(now);
+    put_moves(session, &mut writer)?;
     put_changes(&session.shot, &shot, session.colours, &mut writer)?;
     put_face(alloc, session, &mut writer)?;
     put_steps(alloc, session, &mut writer)?;

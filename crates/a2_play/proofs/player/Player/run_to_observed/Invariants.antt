@@ -1,7 +1,7 @@
 use Rattle.std.proofs.Common.{◌≡◌}
 use Rattle.a2_asm.specs.Assembled.{Assembled}
 use Rattle.a2_play.specs.Played.{IsPlayed}
-use Rattle.a2_play.proofs.player.Player.run_to.Given as goal
+use Rattle.a2_play.proofs.player.Player.run_to_observed.Given as goal
 
 -- what was played so far
 abbrev pub invariant-loop : goal.invariant-loop
