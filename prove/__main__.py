@@ -51,7 +51,7 @@ def main(words):
     if unknown:
         stop(2, f"{words[0]} has no routine {unknown[0]} with a promise")
     if not judge.found:
-        stop(1, f"{words[0]} has no promises; write lines such as ;: ensures A = old A + 1 before a routine's label")
+        stop(1, f"{words[0]} has no promises; write lines such as `;: ensures A = old A + 1` before a routine's label")
     judge.prepare(words[1:])
     try:
         prove([judge], lambda: kit.room_of(TOP, tell))

@@ -21,3 +21,5 @@ pub mod Marks
 pub mod Facts
 pub mod TakenChanges
 pub mod Saying
+pub mod Above
+pub mod Labels

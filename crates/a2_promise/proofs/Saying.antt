@@ -59,8 +59,8 @@ pub says : {names : Names} {text : List ℕ} {before after : Block} (line : Line
     → LetAllChange (changes_in line) before.promise.changes after.promise.changes
     → characters_of after.promise.texts.prints.items ≡ characters_of before.promise.texts.prints.items ++ printed_in line
     → characters_of after.promise.texts.takes.items ≡ characters_of before.promise.texts.takes.items ++ taken_in line
-    → after.is_within ≡ (before.is_within && not (is_promising line)) → AddsLine names text before after
-says line is wanted promised let_all prints takes within = record {
+    → after.is_within ≡ (before.is_within && not (is_promising line)) → after.refused ≡ before.refused → AddsLine names text before after
+says line is wanted promised let_all prints takes within refused = record {
   line = line;
   is_line = is;
   wanted = wanted;
@@ -69,6 +69,7 @@ says line is wanted promised let_all prints takes within = record {
   prints = prints;
   takes = takes;
   is_within = within;
+  refused = refused;
 }
 
 pub same : {A : Type 0} {all : List A} → all ≡ all ++ []

@@ -7,4 +7,5 @@ pub mod Written
 pub mod Grammar
 pub mod PromisedTerms
 pub mod OneReading
+pub mod Finding
 pub mod Reading

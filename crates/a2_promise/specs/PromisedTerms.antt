@@ -1,13 +1,16 @@
 -- What a source promises before the line of a label. This project's profile; docs/manual/promises.md.
-use Rattle.std.specs.Prelude.{◌≡◌, ℕ, Bool, true, false, not, ◌&&◌, ◌||◌, ◌==◌, nat_le, IsTrue, List, [], ◌∷◌, ◌++◌, length, take, map, slice_get, codes, Some, if◌then◌else◌}
-use Rattle.std.specs.List.{list_all, list_any, flat_map}
-use Rattle.a2_text.specs.Bytes.{is_blank}
+use Rattle.std.specs.Prelude.{◌≡◌, ℕ, suc, Bool, true, false, not, ◌&&◌, ◌||◌, ◌==◌, nat_le, IsTrue, List, [], ◌∷◌, ◌++◌, length, take, map, slice_get, codes, Option, Some, None, if◌then◌else◌}
+use Rattle.std.specs.List.{All, list_all, list_any, flat_map}
 use Rattle.a2_text.specs.Signs.{sign as code}
 use Rattle.a2_text.specs.Words.{after_blanks}
+use Rattle.a2_syntax.specs.Names.{is_name_byte}
+use Rattle.a2_syntax.specs.Bare.{BareLine}
 use Rattle.a2_asm.specs.Values.{Names, name_value}
 use Rattle.a2_bus.specs.KeyText.{SpellsKeys}
 use Rattle.a2_promise.specs.declared.expr.Atom.{Atom}
 use Rattle.a2_promise.specs.declared.expr.Atom.TheVariants as atom
+use Rattle.a2_promise.specs.declared.promises.Found.{Found}
+use Rattle.a2_promise.specs.declared.promises.Found.TheVariants as found
 use Rattle.a2_promise.specs.declared.promises.Promise.{Promise}
 use Rattle.a2_promise.specs.Phrases.{Phrase, phrase_of}
 use Rattle.a2_promise.specs.Tokens.{Token, word, sign, front, token_from, tokens}
@@ -115,8 +118,16 @@ begins_with c (d ∷ rest) = d == c
 abbrev pub is_blank_or_comment : List ℕ → Bool
 is_blank_or_comment line = length (after_blanks line) == 0 || begins_with (code ";") (after_blanks line) || begins_with (code "*") line
 
+-- the label of a line, and then of a source's line, counted from 0; empty if the line has no label
 abbrev pub label_of : List ℕ → List ℕ
-label_of line = front (λ c. not (is_blank c)) line
+label_of line = front is_name_byte line
+
+abbrev pub label_or_none : Option (List ℕ) → List ℕ
+label_or_none None = []
+label_or_none (Some name) = name
+
+abbrev pub label_in : List BareLine → ℕ → List ℕ
+label_in source k = elim (slice_get source k) [ None ↦ [] | Some line ↦ label_or_none line.label ]
 
 -- the texts after `;:` in the last of these lines, with only comments and blank lines in between, added after the
 -- texts already found
@@ -223,3 +234,19 @@ pub record IsPromise (promise : Promise) (terms : Terms) : Type 0 where
   pub ranges : map (λ range. (range.first, range.last)) promise.changes.ranges.items ≡ terms.ranges
   pub prints : map (λ text. text.characters.items) promise.texts.prints.items ≡ terms.prints
   pub takes : map (λ text. text.characters.items) promise.texts.takes.items ≡ terms.takes
+
+-- the lines of a source with these names promise this of the routine whose label is in the promise's line
+pub record IsStated (lines : List (List ℕ)) (names : Names) (promise : Promise) : Type 0 where
+  pub above : ℕ
+  pub line : promise.line ≡ suc above
+  pub terms : Terms
+  pub told : IsPromisedBy lines names above promise.name.now terms
+  pub says : IsPromise promise terms
+
+-- what was found, if it is not an error, is a promise of the lines; then for all that was found
+abbrev pub IsFound : List (List ℕ) → Names → Found → Type 0
+IsFound lines names (found.Promise promise) = IsStated lines names promise
+IsFound lines names (found.Refused refusal label) = Unit {0}
+
+abbrev pub AreFound : List (List ℕ) → Names → List Found → Type 0
+AreFound lines names all = All (IsFound lines names) all

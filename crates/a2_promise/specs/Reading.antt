@@ -477,3 +477,4 @@ pub record AddsLine (names : Names) (text : List ℕ) (before after : Block) : T
   pub prints : characters_of after.promise.texts.prints.items ≡ characters_of before.promise.texts.prints.items ++ printed_in line
   pub takes : characters_of after.promise.texts.takes.items ≡ characters_of before.promise.texts.takes.items ++ taken_in line
   pub is_within : after.is_within ≡ (before.is_within && not (is_promising line))
+  pub refused : after.refused ≡ before.refused

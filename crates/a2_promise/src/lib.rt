@@ -8,6 +8,7 @@ ghost use Rattle.a2_promise.specs.OneReading.{LinesGiveOnePromise, WordsSpellOne
 
 mod expr;
 mod fault;
+mod finding;
 mod parsing;
 mod parts;
 mod promises;
@@ -19,7 +20,8 @@ mod words;
 
 pub use expr::{Atom, Expr, Function, Operation};
 pub use fault::Refusal;
-pub use promises::{Changes, Clause, Found, Promise, Range, Within, promise_in, promises_of};
+pub use finding::promises_of;
+pub use promises::{Changes, Clause, Found, Promise, Range, Within, promise_in};
 pub use texts::{Text, Texts};
 pub use valuing::{Bounds, StateView, Visit, value, value_in};
 pub use words::{Infix, Relation};

@@ -2,21 +2,22 @@
 
 ghost use Rattle.std.specs.Prelude.{◌≡◌, ℕ, List, [], ◌∷◌, ◌++◌, IsTrue, IfOk, IfSome, Some, ◌&&◌, MatchOption, OnOk};
 ghost use Rattle.a2_promise.specs.Reading.{AddsChange, AddsChanges, AddsFact, AddsLine, AddsWhole, around_of, says_within, token_of, verb_name};
+ghost use Rattle.a2_asm.specs.Values.{Names};
 ghost use Rattle.a2_promise.specs.Reading.{IsChanges, IsUpTo, LetsChange, is_listed, state_of};
 ghost use Rattle.a2_promise.specs.PromisedTerms as change;
 ghost use Rattle.a2_promise.specs.PromisedTerms.{may_change};
 ghost use Rattle.a2_promise.specs.Tokens.{tokens, word};
 ghost use Rattle.a2_promise.specs.MarkedLines.{Says};
+ghost use Rattle.a2_promise.specs.Finding.{IsRead};
 
 use crate::expr::{Atom, Expr};
 use crate::fault::{ReadFault, Refusal, Why};
 use crate::parsing::expression;
-use crate::reader::{Named, Reader};
+use crate::reader::Reader;
 use crate::reading::{Class, Token, token_in};
 use crate::texts::{Texts, push_text};
 use crate::words::{LOOSEST, Row, held_by, meaning};
-use a2_asm::Program;
-use a2_text::{after_blanks, is_blank, split_word};
+use a2_text::after_blanks;
 use std::alloc::{AllocError, Global};
 
 /// The most levels of nesting in an expression.
@@ -114,23 +115,23 @@ pub enum Found<'a> {
 
 // A label named after `at`: its address, and the error to report if it is not a valid target.
 #[derive(Clone, Copy)]
-struct Label {
-    address: u16,
-    refusal: Refusal,
+pub(crate) struct Label {
+    pub address: u16,
+    pub refusal: Refusal,
 }
 
-// The lines before a label.
-struct Block<'a> {
+/// The lines before a label.
+pub(crate) struct Block<'a> {
     /// The number of the block's first line; 0 if it has no line yet.
-    first: usize,
+    pub first: usize,
     /// The promise. Its name, line and address are set at the label.
-    promise: Promise<'a>,
+    pub promise: Promise<'a>,
     /// The clauses at the label. Their line and address are set at the label.
-    said: Within<'a>,
-    labels: Vec<Label>,
-    refused: Option<Refusal>,
+    pub said: Within<'a>,
+    pub labels: Vec<Label>,
+    pub refused: Option<Refusal>,
     /// Whether the lines have clauses within a routine, and no promise.
-    is_within: bool,
+    pub is_within: bool,
 }
 
 // Written by hand only for the prover: it handles this as one call, but a derived `Drop` field by field.
@@ -147,45 +148,37 @@ impl<'a> Drop for Block<'a> {
     }
 }
 
-// Creates an empty promise.
-fn new_promise<'a>(alloc: Global) -> Promise<'a> {
-    Promise {
-        name: b"",
-        line: 0,
-        address: 0,
-        wanted: Vec::new(alloc),
-        promised: Vec::new(alloc),
-        changes: Changes {
-            a: false,
-            x: false,
-            y: false,
-            ranges: Vec::new(alloc),
-        },
-        texts: Texts {
-            prints: Vec::new(alloc),
-            takes: Vec::new(alloc),
-        },
-        within: Vec::new(alloc),
-    }
-}
-
-// Creates an empty set of clauses.
-fn new_within<'a>(alloc: Global) -> Within<'a> {
-    Within {
-        line: 0,
-        address: 0,
-        invariants: Vec::new(alloc),
-        measures: Vec::new(alloc),
-        is_named: false,
-    }
-}
-
-// Creates an empty block.
-fn new_block<'a>(alloc: Global) -> Block<'a> {
+/// Creates a block without lines.
+pub(crate) fn new_block<'a>(alloc: Global) -> Block<'a>
+    ensures { (names : Names) → IsRead names [] result }
+{
     Block {
         first: 0,
-        promise: new_promise(alloc),
-        said: new_within(alloc),
+        promise: Promise {
+            name: b"",
+            line: 0,
+            address: 0,
+            wanted: Vec::new(alloc),
+            promised: Vec::new(alloc),
+            changes: Changes {
+                a: false,
+                x: false,
+                y: false,
+                ranges: Vec::new(alloc),
+            },
+            texts: Texts {
+                prints: Vec::new(alloc),
+                takes: Vec::new(alloc),
+            },
+            within: Vec::new(alloc),
+        },
+        said: Within {
+            line: 0,
+            address: 0,
+            invariants: Vec::new(alloc),
+            measures: Vec::new(alloc),
+            is_named: false,
+        },
         labels: Vec::new(alloc),
         refused: None,
         is_within: true,
@@ -307,8 +300,23 @@ fn verb_of(token: Token) -> Option<Verb>
 }
 
 impl<'a> Block<'a> {
-    // Reads a line of a promise, which has this number.
-    fn take(&mut self, reader: &mut Reader<'a, '_>, line: usize) -> Result<(), ReadFault>
+    /// Returns the promise, the clauses at the label, and the labels named after `at`.
+    pub fn into_parts(self) -> (Promise<'a>, Within<'a>, Vec<Label>)
+        ensures { result.0 ≡ self.entry.promise }
+    {
+        let Block {
+            first: _,
+            promise,
+            said,
+            labels,
+            refused: _,
+            is_within: _,
+        } = self;
+        (promise, said, labels)
+    }
+
+    /// Reads a line of a promise, which has this number.
+    pub fn take(&mut self, reader: &mut Reader<'a, '_>, line: usize) -> Result<(), ReadFault>
         ensures { reader.old.parts.items ≡ [] → around_of reader.old ≡ []
             → OnOk result (AddsLine reader.old.program.now.names reader.old.rest.now self.old self.new) }
     {
@@ -406,252 +414,4 @@ pub fn promise_in(line: &[u8]) -> Option<&[u8]>
         [b';', b':', rest @ ..] => Some(rest),
         _ => None,
     }
-}
-
-// Returns whether a line is blank or a comment.
-fn is_blank_or_comment(line: &[u8]) -> bool {
-    matches!(after_blanks(line), [] | [b';', ..]) || matches!(line, [b'*', ..])
-}
-
-// Returns the label of a line; empty if it has no label.
-fn label_of(line: &[u8]) -> &[u8] {
-    match line {
-        [c, ..] if is_blank(*c) => b"",
-        _ => split_word(line).0,
-    }
-}
-
-// Returns the column, from 1, at which this many bytes of a line are left.
-fn column_of(line: &[u8], bytes_left: usize) -> usize {
-    line.len().saturating_sub(bytes_left).saturating_add(1)
-}
-
-// Records the labels that this line names after `at`.
-fn note_labels(
-    labels: &mut Vec<Label>,
-    named: &[Named],
-    whole: &[u8],
-    line: usize,
-) -> Result<(), AllocError> {
-    for label in named {
-        let refusal = Refusal {
-            line,
-            column: column_of(whole, label.bytes_left),
-            says: Why::NoLabel.text(),
-        };
-        labels.push(Label {
-            address: label.address,
-            refusal,
-        })?;
-    }
-    Ok(())
-}
-
-// Reads a line of a promise. Records its error if it is the block's first error.
-fn take_line<'a>(
-    alloc: Global,
-    block: &mut Block<'a>,
-    program: &Program<Global>,
-    whole: &'a [u8],
-    line: usize,
-    rest: &'a [u8],
-) -> Result<(), AllocError> {
-    if block.first == 0 {
-        block.first = line;
-    }
-    let mut reader = Reader::new(alloc, rest, program);
-    match block.take(&mut reader, line) {
-        Ok(()) => note_labels(&mut block.labels, reader.labels.as_slice(), whole, line),
-        Err(ReadFault::Memory) => Err(AllocError),
-        Err(ReadFault::Says(why, bytes_left)) => {
-            if block.refused.is_none() {
-                block.refused = Some(Refusal {
-                    line,
-                    column: column_of(whole, bytes_left),
-                    says: why.text(),
-                });
-            }
-            Ok(())
-        }
-    }
-}
-
-// Returns the address of the label after the lines if an instruction begins there. Otherwise returns the error.
-fn entry_of(program: &Program<Global>, block: &Block, label: &[u8]) -> Result<u16, Refusal> {
-    if let Some(refusal) = block.refused {
-        return Err(refusal);
-    }
-    let named = match std::str::from_utf8(label) {
-        Ok(name) => program.name(name),
-        Err(_) => None,
-    };
-    match named {
-        None => Err(at_line(
-            block.first,
-            "expected a line with a label after this promise; move the promise to just before its routine",
-        )),
-        Some(address) => match program.instr_at(address) {
-            Some(_) => Ok(address),
-            None => Err(at_line(
-                block.first,
-                "no instruction begins at the label after this promise; move the promise to just before its routine",
-            )),
-        },
-    }
-}
-
-// Creates an error for the lines from this one on.
-fn at_line(line: usize, says: &'static str) -> Refusal {
-    Refusal {
-        line,
-        column: 1,
-        says,
-    }
-}
-
-// Adds the clauses at a label, if there are any.
-fn push_said<'a>(
-    alloc: Global,
-    within: &mut Vec<Within<'a>>,
-    said: &mut Within<'a>,
-) -> Result<(), AllocError> {
-    if said.invariants.is_empty() && said.measures.is_empty() {
-        return Ok(());
-    }
-    Ok(within.push(std::mem::replace(said, new_within(alloc)))?)
-}
-
-// Adds the promise in the lines before a label.
-fn push_promise<'a>(
-    alloc: Global,
-    found: &mut Vec<Found<'a>>,
-    block: &mut Block<'a>,
-    name: &'a [u8],
-) -> Result<(), AllocError> {
-    block.promise.name = name;
-    block.promise.line = block.said.line;
-    block.promise.address = block.said.address;
-    push_said(alloc, &mut block.promise.within, &mut block.said)?;
-    let promise = std::mem::replace(&mut block.promise, new_promise(alloc));
-    Ok(found.push(Found::Promise(promise))?)
-}
-
-const OUTSIDE: &str =
-    "no promise of a routine comes before this line; write requires, ensures or changes lines before the label of the routine";
-
-// Adds the clauses at a label within a routine to the last promise. If that promise has an error, they are ignored.
-fn attach<'a>(
-    alloc: Global,
-    found: &mut Vec<Found<'a>>,
-    block: &mut Block<'a>,
-    name: &'a [u8],
-) -> Result<(), AllocError> {
-    match found.as_mut_slice().last_mut() {
-        Some(Found::Promise(promise)) => push_said(alloc, &mut promise.within, &mut block.said),
-        Some(Found::Refused(_, _)) => Ok(()),
-        None => Ok(found.push(Found::Refused(at_line(block.first, OUTSIDE), name))?),
-    }
-}
-
-// Adds the result of the lines before a line: a promise, clauses within the last routine, or an error. The labels
-// that they name after `at` are recorded, together with the index of the promise they belong to.
-fn close<'a>(
-    alloc: Global,
-    found: &mut Vec<Found<'a>>,
-    labels: &mut Vec<(usize, Label)>,
-    program: &Program<Global>,
-    block: &mut Block<'a>,
-    name: &'a [u8],
-    line: usize,
-) -> Result<(), AllocError> {
-    if block.first == 0 {
-        return Ok(());
-    }
-    block.said.line = line;
-    block.said.address = match entry_of(program, block, name) {
-        Err(refusal) => return Ok(found.push(Found::Refused(refusal, name))?),
-        Ok(address) => address,
-    };
-    let place = found.len().saturating_sub(usize::from(block.is_within));
-    for label in &block.labels {
-        labels.push((place, *label))?;
-    }
-    if block.is_within {
-        attach(alloc, found, block, name)
-    } else {
-        push_promise(alloc, found, block, name)
-    }
-}
-
-// Marks the label at an address as named after `at`. Returns false if the routine has no clauses at that label.
-fn name_label(within: &mut [Within], address: u16) -> bool {
-    for said in within {
-        if said.address == address {
-            said.is_named = true;
-            return true;
-        }
-    }
-    false
-}
-
-// Replaces a promise by an error if it names a label after `at` that has no clauses.
-fn settle<'a>(found: &mut [Found<'a>], place: usize, label: Label) {
-    let Some(one) = found.get_mut(place) else {
-        return;
-    };
-    if let Found::Promise(promise) = one {
-        if name_label(promise.within.as_mut_slice(), label.address) {
-            return;
-        }
-        *one = Found::Refused(label.refusal, promise.name);
-    }
-}
-
-/// Returns the promises in a source's lines, in their order. `program` must be the program assembled from the same
-/// source.
-///
-/// A promise consists of lines that begin with `;:`, followed by `requires`, `ensures`, `changes`, `prints`, `takes`,
-/// `invariant`, `decreases` or `note`. They come before the line of a label; there may be comments and blank lines in
-/// between. Lines that only say what holds within a routine are not a promise of their own: they belong to the last
-/// promise above them.
-///
-/// An error takes the promise's place in these cases: a line cannot be read, no routine has the label, or `at` names
-/// a label without such lines in its routine. This project's profile. Fails only if memory runs out.
-pub fn promises_of<'a>(
-    alloc: Global,
-    lines: &[&'a [u8]],
-    program: &Program<Global>,
-) -> Result<Vec<Found<'a>>, AllocError> {
-    let mut found = Vec::new(alloc);
-    let mut labels = Vec::new(alloc);
-    let mut block = new_block(alloc);
-    for (index, line) in lines.iter().enumerate() {
-        if let Some(rest) = promise_in(*line) {
-            take_line(alloc, &mut block, program, *line, index + 1, rest)?;
-        } else if !is_blank_or_comment(*line) {
-            close(
-                alloc,
-                &mut found,
-                &mut labels,
-                program,
-                &mut block,
-                label_of(*line),
-                index + 1,
-            )?;
-            block = new_block(alloc);
-        }
-    }
-    close(
-        alloc,
-        &mut found,
-        &mut labels,
-        program,
-        &mut block,
-        b"",
-        lines.len(),
-    )?;
-    for (place, label) in &labels {
-        settle(found.as_mut_slice(), *place, *label);
-    }
-    Ok(found)
 }

@@ -71,7 +71,8 @@ impl<'a, 'p> Drop for Reader<'a, 'p> {
 impl<'a, 'p> Reader<'a, 'p> {
     /// Creates a reader for a line.
     pub fn new(alloc: Global, line: &'a [u8], program: &'p Program<Global>) -> Reader<'a, 'p>
-        ensures { state_of result ≡ beginning_of line.now program.now.names }
+        ensures state { state_of result ≡ beginning_of line.now program.now.names }
+        ensures rest { result.rest.now ≡ line.now }
     {
         Reader {
             alloc,

@@ -147,7 +147,8 @@ pub fn judge_all<W: Output>(
     let program = assembled.program();
     let lines = cut(alloc, assembled.text())?;
     let parts = split_lines(alloc, lines.as_slice())?;
-    let found = promises_of(alloc, parts.others.as_slice(), program)?;
+    let source = assembled.source();
+    let found = promises_of(alloc, parts.others.as_slice(), source, program)?;
     let mut judgement = Judgement {
         promises: 0,
         is_any_refused: false,

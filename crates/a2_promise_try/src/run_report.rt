@@ -1,7 +1,7 @@
 //! Writes the report on the promises of a source's own run.
 
 use a2_stream::{Output, WriteFault, put_all};
-use a2_tests::{Line, NOT_CALLED, NumberedLine, Verdict};
+use a2_tests::{Line, NumberedLine, Verdict};
 use a2_text::decimal;
 use std::alloc::Global;
 
@@ -53,6 +53,6 @@ pub(crate) fn put_run<W: Output>(
     match verdict {
         Verdict::Passed => put_all(&[b"held\n"], output),
         Verdict::Missed(line, told) => put_missed(*line, told.as_slice(), output),
-        Verdict::NotCalled => put_all(&[b"FAILS: ", NOT_CALLED, b"\n"], output),
+        Verdict::NotCalled(why) => put_all(&[b"FAILS: ", why.as_slice(), b"\n"], output),
     }
 }
