@@ -57,14 +57,19 @@ pub record RunsTo (lines : List NumberedLine) (running : Assembled) (end : End) 
 abbrev pub IsVerdictOnEnd : {A : Type 0} → List NumberedLine → Assembled → End → Verdict A → Type 0
 IsVerdictOnEnd lines program end Passed = MeetsAll lines program end
 IsVerdictOnEnd lines program end (Missed number report) = (n : ℕ) × IsFirstMissed lines program end n × (number_at lines n ≡ Some number)
-IsVerdictOnEnd lines program end NotCalled = ⊥
+IsVerdictOnEnd lines program end (NotCalled report) = ⊥
+
+-- the verdict that a routine cannot be called
+abbrev pub IsNotCalled : {A : Type 0} → Verdict A → Type 0
+IsNotCalled (NotCalled report) = Unit {0}
+IsNotCalled _ = ⊥
 
 -- the verdict on a case in which this text runs, for a source with this program: it follows from the end of the run; or
 -- the text has errors, so no routine is called
 abbrev pub IsVerdictOf : {A : Type 0} → List NumberedLine → List ℕ → Assembled → Verdict A → Type 0
 IsVerdictOf lines text program verdict =
     ((running : Assembled) × (end : End) × IsProgramOf text running × RunsTo lines running end × IsVerdictOnEnd lines program end verdict)
-    ⊎ ((verdict ≡ NotCalled) × ((fault : Fault) × IsRefused text fault))
+    ⊎ (IsNotCalled verdict × ((fault : Fault) × IsRefused text fault))
 
 abbrev pub IsVerdict : {A : Type 0} → List NumberedLine → List ℕ → Assembled → Verdict A → Type 0
 IsVerdict lines source program verdict = IsVerdictOf lines (case_text lines source) program verdict

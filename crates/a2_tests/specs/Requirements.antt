@@ -2,7 +2,7 @@
 use Rattle.std.specs.Prelude.{◌≡◌, ℕ, ◌+◌, ◌%◌, ◌==◌, ◌<◌, ◌≤◌, Bool, true, false, ◌&&◌, not, List, [], ◌∷◌, drop, length, find, Option, Some, None, is_some, is_none, if◌then◌else◌}
 use Rattle.std.specs.List.{list_all}
 use Rattle.std.specs.Str.{bytes_eq}
-use Rattle.a2_text.specs.Bytes.{number_in}
+use Rattle.a2_text.specs.Bytes.{capital, number_in}
 use Rattle.a2_text.specs.Lines.{lines}
 use Rattle.a2_text.specs.Words.{words}
 use Rattle.a2_opcode.specs.declared.Mnemonic.{Mnemonic}
@@ -16,7 +16,7 @@ use Rattle.a2_machine.specs.declared.causes.Cause.{Cause}
 use Rattle.a2_machine.specs.Meaning.{End}
 use Rattle.a2_machine.specs.State.{MachineState, world_of_state}
 use Rattle.a2_run.specs.Meaning.{picture_of}
-use Rattle.a2_tests.specs.Settings.{byte_of, name_in, digits_in}
+use Rattle.a2_tests.specs.Settings.{byte_of, name_in, digits_in, tight}
 use Rattle.a2_tests.specs.Rows.{rows_fit, row_is, holds}
 use Rattle.a2_tests.specs.declared.line.NumberedLine.{NumberedLine}
 use Rattle.a2_tests.specs.declared.line.Line.{Line}
@@ -41,11 +41,12 @@ abbrev pub has_bytes_at : Memory → Option ℕ → List ℕ → Bool
 has_bytes_at memory None bytes = false
 has_bytes_at memory (Some address) bytes = has_bytes memory address (words bytes)
 
--- the value of a register named by one letter
+-- the value of a register named by one letter, in either case
 abbrev pub register_byte : Registers → List ℕ → Option ℕ
 register_byte r (c ∷ []) =
-    if c == 0x41 then Some r.a else if c == 0x58 then Some r.x else if c == 0x59 then Some r.y
-    else if c == 0x50 then Some (byte_of_flags r.flags) else if c == 0x53 then Some r.s else None
+    let name = capital c in
+    if name == 0x41 then Some r.a else if name == 0x58 then Some r.x else if name == 0x59 then Some r.y
+    else if name == 0x50 then Some (byte_of_flags r.flags) else if name == 0x53 then Some r.s else None
 register_byte r _ = None
 
 -- whether the register in a word such as A=E9 has the value given there
@@ -78,7 +79,7 @@ Meets Screen rest program end = rows_fit rest (rows_of end.world.memory) ≡ tru
 Meets (Shows number text) rest program end = row_is number text.now (rows_of end.world.memory) ≡ true
 Meets (Holds text) rest program end = holds text.now (rows_of end.world.memory) ≡ true
 Meets (Mem place bytes) rest program end = has_bytes_at end.world.memory (place_of program place.now) bytes.now ≡ true
-Meets (Reg text) rest program end = list_all (register_matches end.world.registers) (words text.now) ≡ true
+Meets (Reg text) rest program end = list_all (register_matches end.world.registers) (words (tight text.now)) ≡ true
 Meets (Stop cause) rest program end = end.cause ≡ cause
 Meets (Cycles most) rest program end = end.world.cycles ≤ most
 Meets (Bytes most) rest program end = size_of program.statements ≤ most

@@ -4,10 +4,11 @@ ghost use Rattle.std.specs.Prelude.{◌≡◌, ◌++◌, Some, None, IfOk, OnOk,
 ghost use Rattle.std.specs.List.{flat_map};
 ghost use Rattle.a2_text.specs.Words.{words};
 ghost use Rattle.a2_tests.specs.Calls as said;
+ghost use Rattle.a2_tests.specs.Settings.{tight as tight_text};
 
 use crate::line::{Call, Line, NumberedLine};
-use crate::settings::{digits_in, name_in};
-use a2_text::first_word;
+use crate::settings::{digits_in, name_in, operand_mark, tight};
+use a2_text::{capital, first_word};
 use std::alloc::{AllocError, Allocator};
 
 // Returns the call of a line, or the earlier one if the line has none.
@@ -36,10 +37,10 @@ fn load_of<'a>(place: &'a [u8]) -> Option<&'a [u8]>
     ensures { MatchOption result (said.load_of place.now ≡ None) (λ load. said.load_of place.now ≡ Some load.now) }
 {
     match place {
-        [c] => match *c {
-            b'A' => Some(b" LDA #$"),
-            b'X' => Some(b" LDX #$"),
-            b'Y' => Some(b" LDY #$"),
+        [c] => match capital(*c) {
+            b'A' => Some(b" LDA "),
+            b'X' => Some(b" LDX "),
+            b'Y' => Some(b" LDY "),
             _ => None,
         },
         _ => None,
@@ -64,7 +65,10 @@ fn append_load<A: Allocator + Copy>(text: &mut Vec<u8, A>, word: &[u8]) -> Resul
     ensures { OnOk result (text.new.items ≡ text.old.items ++ said.load_lines word.now) }
 {
     match load_of(name_in(word)) {
-        Some(load) => append(text, &[load, digits_in(word), b"\n"]),
+        Some(load) => append(
+            text,
+            &[load, operand_mark(digits_in(word)), digits_in(word), b"\n"],
+        ),
         None => Ok(()),
     }
 }
@@ -78,7 +82,8 @@ fn append_store<A: Allocator + Copy>(text: &mut Vec<u8, A>, word: &[u8]) -> Resu
         None => append(
             text,
             &[
-                b" LDA #$",
+                b" LDA ",
+                operand_mark(digits_in(word)),
                 digits_in(word),
                 b"\n STA ",
                 name_in(word),
@@ -103,15 +108,17 @@ fn append_setting<A: Allocator + Copy>(
     }
 }
 
-// Appends the lines for each word.
+// Appends the lines for each setting.
 fn append_settings<A: Allocator + Copy>(
+    alloc: A,
     text: &mut Vec<u8, A>,
     settings: &[u8],
     stores: bool,
 ) -> Result<(), AllocError>
-    ensures { OnOk result (text.new.items ≡ text.old.items ++ said.all_lines stores (words settings.now)) }
+    ensures { OnOk result (text.new.items ≡ text.old.items ++ said.all_lines stores (words (tight_text settings.now))) }
 {
-    let mut rest = settings;
+    let joined = tight(alloc, settings)?;
+    let mut rest = joined.as_slice();
     while let Some((word, following)) = first_word(rest) {
         append_setting(text, word, stores)?;
         rest = following;
@@ -144,8 +151,8 @@ pub(crate) fn calling_text<A: Allocator + Copy>(
     ensures { IfOk result (λ text. text.items ≡ said.calling_text call.entry.name.now call.entry.settings.now source.now) }
 {
     let mut text = Vec::from_slice(alloc, b" ORG $BF00\n")?;
-    append_settings(&mut text, call.settings, true)?;
-    append_settings(&mut text, call.settings, false)?;
+    append_settings(alloc, &mut text, call.settings, true)?;
+    append_settings(alloc, &mut text, call.settings, false)?;
     append_call(&mut text, call.name)?;
     append_text(&mut text, source)?;
     Ok(text)

@@ -9,8 +9,9 @@ ghost use Rattle.a2_tests.specs.Judging as judging;
 ghost use Rattle.a2_tests.specs.Judging.{AreKeys, AreVerdicts, IsVerdictOnEnd, IsVerdict, IsVerdictOf, RunsTo};
 
 use crate::call::{call_in, calling_text};
+use crate::call_report::call_report;
 use crate::cases::Case;
-use crate::line::{Line, NumberedLine, following};
+use crate::line::{Call, Line, NumberedLine, following};
 use crate::miss_report::miss_report;
 use crate::requirements::{Ending, first_missed};
 use a2_asm::Program;
@@ -28,9 +29,9 @@ pub enum Verdict<A: Allocator> {
     Passed,
     /// The requirement on the line with this number is not met; the text reports what was found instead.
     Missed(usize, Vec<u8, A>),
-    /// Its routine cannot be called: the source has no routine with that name, or the source is not valid after the
-    /// lines that call it.
-    NotCalled,
+    /// Its routine cannot be called: the source lacks a name that the call needs, or is not valid after the lines that
+    /// call it. The text says which.
+    NotCalled(Vec<u8, A>),
 }
 
 // Not derived, only for the prover: it follows this as one call, and a derived one field by field.
@@ -39,7 +40,7 @@ impl<A: Allocator> Drop for Verdict<A> {
         match self {
             Verdict::Passed => {}
             Verdict::Missed(_, _) => {}
-            Verdict::NotCalled => {}
+            Verdict::NotCalled(_) => {}
         }
     }
 }
@@ -140,7 +141,7 @@ fn verdict_of_end<A: Allocator + Copy>(
         cause,
         rows: rows.as_slice(),
     };
-    match first_missed(lines, &ending) {
+    match first_missed(alloc, lines, &ending)? {
         None => Ok(Verdict::Passed),
         Some(index) => missed(alloc, lines, index, &ending),
     }
@@ -164,10 +165,11 @@ fn verdict_of_run<A: Allocator + Copy>(
     verdict_of_end(alloc, lines, program, &machine, cause)
 }
 
-// Returns the verdict on a case that calls a routine.
+// Returns the verdict on a case that makes a call, in which this text runs.
 fn judge_call<A: Allocator + Copy>(
     alloc: A,
     lines: &[NumberedLine],
+    call: Call,
     text: &[u8],
     program: &Program<A>,
 ) -> Result<Verdict<A>, AllocError>
@@ -175,7 +177,7 @@ fn judge_call<A: Allocator + Copy>(
 {
     match program_of(alloc, text) {
         Ok(running) => verdict_of_run(alloc, lines, program, &running),
-        Err(RunFault::Source(_)) => Ok(Verdict::NotCalled),
+        Err(RunFault::Source(_)) => Ok(Verdict::NotCalled(call_report(alloc, call, program)?)),
         Err(_) => Err(AllocError),
     }
 }
@@ -193,7 +195,7 @@ fn judge_case<A: Allocator + Copy>(
     match call_in(lines) {
         Some(call) => {
             let text = calling_text(alloc, call, source)?;
-            judge_call(alloc, lines, text.as_slice(), program)
+            judge_call(alloc, lines, call, text.as_slice(), program)
         }
         None => verdict_of_run(alloc, lines, program, program),
     }

@@ -4,9 +4,11 @@
 #![tactic(auto)]
 
 mod call;
+mod call_report;
 mod cases;
 mod judge;
 mod line;
+mod line_fault;
 mod miss_report;
 mod report;
 mod requirements;
@@ -16,4 +18,5 @@ mod settings;
 pub use cases::{Case, cases_of, lines_of};
 pub use judge::{Verdict, judge_source};
 pub use line::{Line, NumberedLine, begins_want_line, numbered_line};
-pub use report::{Format, Found, NOT_CALLED, Totals, put_head, put_solution, put_tail};
+pub use line_fault::put_line_fault;
+pub use report::{Format, Found, SourceErrors, Totals, put_head, put_solution, put_tail};

@@ -5,12 +5,12 @@ ghost use Rattle.a2_text.specs.Words.{words};
 ghost use Rattle.a2_tests.specs.Lines as said;
 ghost use Rattle.a2_tests.specs.declared.line.Verb.{Verb as DeclaredVerb};
 
-use crate::settings::{byte_of, digits_in, name_in};
+use crate::settings::{byte_of, setting_in};
 use a2_bus::Keys;
 use a2_machine::Cause;
 use a2_opcode::Mnemonic;
 use a2_run::step_limit;
-use a2_text::{after_blanks, first_word, number_in, only_word, split_word};
+use a2_text::{after_blanks, capital, first_word, number_in, only_word, split_word};
 
 /// The meaning of a line of a WANT file. Each text in it is a part of the line.
 #[derive(Clone, Copy)]
@@ -35,7 +35,7 @@ pub enum Line<'a> {
     Holds(&'a [u8]),
     /// `mem $320 = A9 01`: these bytes begin at this place, a number or a name.
     Mem(&'a str, &'a [u8]),
-    /// `reg A=E9 X=00`: these registers have these values.
+    /// `reg A=E9 X=00`: these registers have these values. Blanks may be around each `=`, here and after `call`.
     Reg(&'a [u8]),
     /// `stop RETURNED` or `stops RETURNED`: the run stops with this cause.
     Stop(Cause),
@@ -93,8 +93,8 @@ pub(crate) enum Verb {
     Must,
 }
 
-// All verbs.
-const VERBS: [Verb; 12] = [
+/// All verbs.
+pub(crate) const VERBS: [Verb; 12] = [
     Verb::Case,
     Verb::Keys,
     Verb::Limit,
@@ -110,8 +110,8 @@ const VERBS: [Verb; 12] = [
 ];
 
 impl Verb {
-    // Returns the spelling of the verb.
-    fn letters(self) -> &'static [u8]
+    /// Returns the spelling of the verb.
+    pub(crate) fn letters(self) -> &'static [u8]
         ensures { result.now ≡ said.verb_letters self }
     {
         match self {
@@ -131,8 +131,8 @@ impl Verb {
     }
 }
 
-// Returns the verb that a word means.
-fn verb_of(word: &[u8]) -> Option<Verb>
+/// Returns the verb that a word means.
+pub(crate) fn verb_of(word: &[u8]) -> Option<Verb>
     ensures found { IfSome result (λ v. said.verb_letters v ≡ word.now) }
     ensures only { (v : DeclaredVerb) → said.verb_letters v ≡ word.now → result ≡ Some v }
 {
@@ -167,7 +167,10 @@ fn limit_in(rest: &[u8]) -> Option<u32> {
 
 // Returns the number after `<=`.
 fn most_in(rest: &[u8]) -> Option<u32> {
-    limit_in(after(b"<=", rest)?)
+    match after_blanks(rest) {
+        [b'<', b'=', number @ ..] => limit_in(number),
+        _ => None,
+    }
 }
 
 // Returns the keys after exactly one blank.
@@ -180,43 +183,16 @@ fn keys_in(rest: &[u8]) -> Option<&str> {
     Some(text)
 }
 
-// The kind of word that a text must consist of.
-#[derive(Clone, Copy)]
-enum Kind {
-    Byte,
-    Setting,
-    Register,
-}
-
-// Returns whether a word is a byte.
-fn is_byte(word: &[u8]) -> bool {
+/// Returns whether a word is a byte.
+pub(crate) fn is_byte(word: &[u8]) -> bool {
     byte_of(word).is_some()
 }
 
-// Returns whether a word has the form `PLACE=BYTE`.
-fn is_setting(word: &[u8]) -> bool {
-    !name_in(word).is_empty() && is_byte(digits_in(word))
-}
-
-// Returns whether a word is a register with a byte, such as `A=E9`.
-fn is_register(word: &[u8]) -> bool {
-    matches!(name_in(word), [b'A' | b'X' | b'Y' | b'P' | b'S']) && is_byte(digits_in(word))
-}
-
-// Returns whether a word is of a kind.
-fn is_kind(kind: Kind, word: &[u8]) -> bool {
-    match kind {
-        Kind::Byte => is_byte(word),
-        Kind::Setting => is_setting(word),
-        Kind::Register => is_register(word),
-    }
-}
-
-// Returns whether all words of a text are of a kind.
-fn are_all(kind: Kind, text: &[u8]) -> bool {
+// Returns whether all words of a text are bytes.
+fn are_bytes(text: &[u8]) -> bool {
     let mut rest = text;
     while let Some((word, following)) = first_word(rest) {
-        if !is_kind(kind, word) {
+        if !is_byte(word) {
             return false;
         }
         rest = following;
@@ -224,12 +200,55 @@ fn are_all(kind: Kind, text: &[u8]) -> bool {
     true
 }
 
-// Returns whether two texts have the same words.
+/// What the settings of a line name.
+#[derive(Clone, Copy)]
+pub(crate) enum Named {
+    Place,
+    Register,
+}
+
+impl Named {
+    /// Returns whether a word names that.
+    pub(crate) fn is_name(self, word: &[u8]) -> bool {
+        match self {
+            Named::Place => !word.is_empty(),
+            Named::Register => match word {
+                [c] => matches!(capital(*c), b'A' | b'X' | b'Y' | b'P' | b'S'),
+                _ => false,
+            },
+        }
+    }
+}
+
+// Returns whether a text consists of settings, such as `A=E9` or `RESULT = 05`.
+fn are_settings(named: Named, text: &[u8]) -> bool {
+    let mut rest = text;
+    while first_word(rest).is_some() {
+        let Some(setting) = setting_in(rest) else {
+            return false;
+        };
+        let Some((value, following)) = first_word(setting.value) else {
+            return false;
+        };
+        if !named.is_name(setting.name) || !is_byte(value) {
+            return false;
+        }
+        rest = following;
+    }
+    true
+}
+
+// Returns whether two words are the same, in either case.
+fn is_same_word(word: &[u8], other: &[u8]) -> bool {
+    word.eq_ignore_ascii_case(other)
+}
+
+// Returns whether two texts have the same words, in either case.
 fn are_same_words(text: &[u8], other: &[u8]) -> bool {
     match first_word(text) {
         None => first_word(other).is_none(),
         Some((word, following)) => match first_word(other) {
-            Some((same, rest)) if same == word => are_same_words(following, rest),
+            Some((same, rest)) if is_same_word(same, word) => are_same_words(following, rest),
             _ => false,
         },
     }
@@ -269,9 +288,9 @@ fn quoted(text: &[u8]) -> Option<&[u8]> {
 
 // Parses the text after `screen row`.
 fn shown<'a>(rest: &'a [u8]) -> Option<Line<'a>> {
-    let (number, following) = first_word(rest)?;
-    let number = number_in(10, 2, number)?;
-    Some(Line::Shows(number, quoted(after(b"=", following)?)?))
+    let setting = setting_in(rest)?;
+    let number = number_in(10, 2, setting.name)?;
+    Some(Line::Shows(number, quoted(setting.value)?))
 }
 
 // Parses the text after `screen`.
@@ -287,12 +306,12 @@ fn screen<'a>(rest: &'a [u8]) -> Option<Line<'a>> {
 
 // Parses the text after `mem`.
 fn mem<'a>(rest: &'a [u8]) -> Option<Line<'a>> {
-    let (place, following) = first_word(rest)?;
-    let Ok(place) = std::str::from_utf8(place) else {
+    let setting = setting_in(rest)?;
+    let Ok(place) = std::str::from_utf8(setting.name) else {
         return None;
     };
-    let bytes = after(b"=", following)?;
-    if first_word(bytes).is_some() && are_all(Kind::Byte, bytes) {
+    let bytes = setting.value;
+    if !place.is_empty() && first_word(bytes).is_some() && are_bytes(bytes) {
         Some(Line::Mem(place, bytes))
     } else {
         None
@@ -301,7 +320,7 @@ fn mem<'a>(rest: &'a [u8]) -> Option<Line<'a>> {
 
 // Parses the text after `reg`.
 fn reg<'a>(rest: &'a [u8]) -> Option<Line<'a>> {
-    if first_word(rest).is_some() && are_all(Kind::Register, rest) {
+    if first_word(rest).is_some() && are_settings(Named::Register, rest) {
         Some(Line::Reg(rest))
     } else {
         None
@@ -311,7 +330,7 @@ fn reg<'a>(rest: &'a [u8]) -> Option<Line<'a>> {
 // Parses the text after `call`.
 fn called<'a>(rest: &'a [u8]) -> Option<Line<'a>> {
     let (name, settings) = first_word(rest)?;
-    if are_all(Kind::Setting, settings) {
+    if are_settings(Named::Place, settings) {
         Some(Line::Call(Call { name, settings }))
     } else {
         None
@@ -345,7 +364,7 @@ fn worded<'a>(text: &'a [u8]) -> Option<Line<'a>> {
 pub(crate) fn line_of<'a>(text: &'a [u8]) -> Line<'a> {
     match after_blanks(text) {
         [] | [b';', ..] => Line::Silent,
-        [b'|', row @ ..] => Line::Row(row),
+        [b'|', row @ ..] => Line::Row(row.trim_ascii_end()),
         here => match worded(here) {
             Some(line) => line,
             None => Line::Unknown,

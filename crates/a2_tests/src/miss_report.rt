@@ -7,7 +7,7 @@ use crate::requirements::{
     size_of,
 };
 use crate::rows::{first_row, row_count, row_fits};
-use crate::settings::name_in;
+use crate::settings::{name_in, tight};
 use a2_opcode::Mnemonic;
 use a2_symbols::statement_at;
 use a2_text::{decimal, hex_pair, hex_word, is_blank};
@@ -130,17 +130,28 @@ fn report_memory<A: Allocator + Copy>(
     report_byte(text, ending.machine.peek(at))
 }
 
+// Reports a register that does not have the value of a word.
+fn report_register<A: Allocator + Copy>(
+    text: &mut Vec<u8, A>,
+    word: &[u8],
+    ending: &Ending<A>,
+) -> Result<(), AllocError> {
+    append(text, &[b"reg: expected ", word, b", found "])?;
+    report_byte(text, register_byte(ending.machine, name_in(word)))
+}
+
 // Reports the first register that does not have the expected value.
 fn report_registers<A: Allocator + Copy>(
+    alloc: A,
     text: &mut Vec<u8, A>,
     words: &[u8],
     ending: &Ending<A>,
 ) -> Result<(), AllocError> {
-    let Some(word) = first_different_register(ending.machine, words) else {
-        return Ok(());
-    };
-    append(text, &[b"reg: expected ", word, b", found "])?;
-    report_byte(text, register_byte(ending.machine, name_in(word)))
+    let settings = tight(alloc, words)?;
+    match first_different_register(ending.machine, settings.as_slice()) {
+        Some(word) => report_register(text, word, ending),
+        None => Ok(()),
+    }
 }
 
 // Reports that a number is above the maximum.
@@ -182,6 +193,7 @@ fn report_use<A: Allocator + Copy>(
 
 // Reports the difference.
 fn report_difference<A: Allocator + Copy>(
+    alloc: A,
     text: &mut Vec<u8, A>,
     lines: &[NumberedLine],
     ending: &Ending<A>,
@@ -194,7 +206,7 @@ fn report_difference<A: Allocator + Copy>(
         Line::Shows(number, wanted) => report_row_at(text, number, wanted, ending.rows),
         Line::Holds(part) => append(text, &[b"no row of the screen contains \"", part, b"\""]),
         Line::Mem(place, bytes) => report_memory(text, place, bytes, ending),
-        Line::Reg(words) => report_registers(text, words, ending),
+        Line::Reg(words) => report_registers(alloc, text, words, ending),
         Line::Stop(cause) => append(
             text,
             &[
@@ -240,7 +252,7 @@ pub(crate) fn miss_report<A: Allocator + Copy>(
     ending: &Ending<A>,
 ) -> Result<Vec<u8, A>, AllocError> {
     let mut text = Vec::new(alloc);
-    report_difference(&mut text, lines, ending)?;
+    report_difference(alloc, &mut text, lines, ending)?;
     report_end(&mut text, ending)?;
     Ok(text)
 }

@@ -21,8 +21,18 @@ pub enum Format {
 pub enum Found<'a, A: Allocator> {
     /// It was judged, with a verdict on each case.
     Judged(&'a [Verdict<A>]),
-    /// It has errors or could not be read, for this reason.
+    /// It could not be read, for this reason.
     Refused(&'a [u8]),
+    /// Its source has errors.
+    Invalid(SourceErrors<'a>),
+}
+
+/// The errors of a source: the first one in a few words, for formats that programs read, and the lines that say where each
+/// error is and how to fix it, for a table.
+#[derive(Clone, Copy)]
+pub struct SourceErrors<'a> {
+    pub first: &'a [u8],
+    pub lines: &'a [u8],
 }
 
 /// How many solutions passed all cases, failed a case, or had errors. Each count stays at 2^64 - 1.
@@ -46,7 +56,7 @@ impl Totals {
     /// Counts a solution.
     pub fn count<A: Allocator + Copy>(&mut self, found: &Found<A>) {
         match found {
-            Found::Refused(_) => self.refused = self.refused.saturating_add(1),
+            Found::Refused(_) | Found::Invalid(_) => self.refused = self.refused.saturating_add(1),
             Found::Judged(verdicts) => {
                 if passed_of(*verdicts) == verdicts.len() {
                     self.passed = self.passed.saturating_add(1);
@@ -70,8 +80,8 @@ fn passed_of<A: Allocator + Copy>(verdicts: &[Verdict<A>]) -> usize {
 }
 
 // Returns the characters that a format writes for a byte, in a JSON string, in XML, or in a CSV field. The byte itself
-// if it needs no escape.
-fn spelt<'a>(format: Format, c: &'a u8) -> &'a [u8] {
+// if it needs no escape. A byte above ASCII is itself only in a text of UTF-8.
+fn spelt<'a>(format: Format, is_utf8: bool, c: &'a u8) -> &'a [u8] {
     match (format, *c) {
         (Format::Csv, b'"') => b"\"\"",
         (Format::Json, b'"') => b"\\\"",
@@ -81,14 +91,16 @@ fn spelt<'a>(format: Format, c: &'a u8) -> &'a [u8] {
         (Format::Junit, b'<') => b"&lt;",
         (Format::Junit, b'>') => b"&gt;",
         (_, 0..=31 | 127) => b"?",
+        (_, 128..=255) if !is_utf8 => b"?",
         _ => std::slice::from_ref(c),
     }
 }
 
 // Writes a text, with each byte as the format spells it.
 fn put_text<W: Output>(format: Format, text: &[u8], writer: &mut W) -> Result<(), WriteFault> {
+    let is_utf8 = std::str::from_utf8(text).is_ok();
     for c in text {
-        put(spelt(format, c), writer)?;
+        put(spelt(format, is_utf8, c), writer)?;
     }
     Ok(())
 }
@@ -150,15 +162,11 @@ impl<'a> Outcome<'a> {
     }
 }
 
-/// The report on a case whose routine cannot be called.
-pub const NOT_CALLED: &[u8] =
-    b"cannot call its routine; the source must define the names in the `call` line";
-
 // Returns the line of the WANT file that a verdict names, or 0.
 fn line_of<A: Allocator + Copy>(verdict: &Verdict<A>) -> usize {
     match verdict {
         Verdict::Missed(line, _) => *line,
-        Verdict::Passed | Verdict::NotCalled => 0,
+        Verdict::Passed | Verdict::NotCalled(_) => 0,
     }
 }
 
@@ -166,8 +174,7 @@ fn line_of<A: Allocator + Copy>(verdict: &Verdict<A>) -> usize {
 fn report_of<A: Allocator + Copy>(verdict: &Verdict<A>) -> &[u8] {
     match verdict {
         Verdict::Passed => b"",
-        Verdict::Missed(_, report) => report.as_slice(),
-        Verdict::NotCalled => NOT_CALLED,
+        Verdict::Missed(_, report) | Verdict::NotCalled(report) => report.as_slice(),
     }
 }
 
@@ -211,6 +218,7 @@ fn reason_of<'a, 'b, A: Allocator + Copy>(
     match found {
         Found::Judged(verdicts) => first_failed(cases, *verdicts),
         Found::Refused(why) => Reason::Refused(*why),
+        Found::Invalid(errors) => Reason::Refused(errors.first),
     }
 }
 
@@ -257,9 +265,14 @@ fn put_failed<'a, W: Output>(
             writer,
         )?;
     }
+    let colon: &[u8] = if name.is_empty() && outcome.line == 0 {
+        b""
+    } else {
+        b": "
+    };
     put_pieces(
         format,
-        &[Piece::Plain(b": "), Piece::Text(outcome.report)],
+        &[Piece::Plain(colon), Piece::Text(outcome.report)],
         writer,
     )
 }
@@ -268,7 +281,7 @@ fn put_failed<'a, W: Output>(
 fn passed_in<A: Allocator + Copy>(found: &Found<A>) -> usize {
     match found {
         Found::Judged(verdicts) => passed_of(*verdicts),
-        Found::Refused(_) => 0,
+        Found::Refused(_) | Found::Invalid(_) => 0,
     }
 }
 
@@ -281,11 +294,10 @@ fn padding_after(name: &[u8]) -> &[u8] {
     blanks
 }
 
-// Writes the line of a solution, with how many of all cases it passed.
-fn put_row<'a, W: Output>(
+// Writes the beginning of the line of a solution, with how many of all cases it passed.
+fn put_score<'a, W: Output>(
     name: &'a [u8],
     (passed, all): (usize, usize),
-    reason: Reason<'a>,
     writer: &mut W,
 ) -> Result<(), WriteFault> {
     put_pieces(
@@ -299,8 +311,26 @@ fn put_row<'a, W: Output>(
             Piece::Number(all),
         ],
         writer,
-    )?;
-    put_reason(Format::Table, b"  ", reason, writer)?;
+    )
+}
+
+// Writes the line of a solution, and after it the lines of the errors in its source.
+fn put_row<A: Allocator + Copy, W: Output>(
+    name: &[u8],
+    cases: &[Case<A>],
+    found: &Found<A>,
+    writer: &mut W,
+) -> Result<(), WriteFault> {
+    let passed = passed_in(found);
+    match found {
+        Found::Judged(verdicts) => put_score(name, (passed, verdicts.len()), writer)?,
+        Found::Refused(_) => put_score(name, (passed, cases.len()), writer)?,
+        Found::Invalid(errors) => {
+            put_score(name, (passed, cases.len()), writer)?;
+            return put_all(&[b"  ", errors.lines], writer);
+        }
+    }
+    put_reason(Format::Table, b"  ", reason_of(cases, found), writer)?;
     put(b"\n", writer)
 }
 
@@ -386,6 +416,19 @@ fn put_objects<A: Allocator + Copy, W: Output>(
     Ok(())
 }
 
+// Writes the end of the object of a solution that was not judged, for this reason.
+fn put_json_error<W: Output>(why: &[u8], writer: &mut W) -> Result<(), WriteFault> {
+    put_pieces(
+        Format::Json,
+        &[
+            Piece::Plain(b"\",\"error\":\""),
+            Piece::Text(why),
+            Piece::Plain(b"\"}"),
+        ],
+        writer,
+    )
+}
+
 // Writes these bytes and the object of a solution.
 fn put_json<'a, A: Allocator + Copy, W: Output>(
     front: &'a [u8],
@@ -409,15 +452,8 @@ fn put_json<'a, A: Allocator + Copy, W: Output>(
             put_objects(cases, *verdicts, writer)?;
             put(b"]}", writer)
         }
-        Found::Refused(why) => put_pieces(
-            Format::Json,
-            &[
-                Piece::Plain(b"\",\"error\":\""),
-                Piece::Text(*why),
-                Piece::Plain(b"\"}"),
-            ],
-            writer,
-        ),
+        Found::Refused(why) => put_json_error(*why, writer),
+        Found::Invalid(errors) => put_json_error(errors.first, writer),
     }
 }
 
@@ -505,6 +541,7 @@ fn put_suite<A: Allocator + Copy, W: Output>(
     match found {
         Found::Judged(verdicts) => put_tests(cases, *verdicts, writer)?,
         Found::Refused(why) => put_errors(cases, *why, writer)?,
+        Found::Invalid(errors) => put_errors(cases, errors.first, writer)?,
     }
     put(b"  </testsuite>\n", writer)
 }
@@ -531,16 +568,14 @@ pub fn put_solution<A: Allocator + Copy, W: Output>(
     is_first: bool,
     writer: &mut W,
 ) -> Result<(), WriteFault> {
-    let passed = passed_in(found);
     match format {
-        Format::Table => {
-            let all = match found {
-                Found::Judged(verdicts) => verdicts.len(),
-                Found::Refused(_) => cases.len(),
-            };
-            put_row(name, (passed, all), reason_of(cases, found), writer)
-        }
-        Format::Csv => put_record(name, (passed, cases.len()), reason_of(cases, found), writer),
+        Format::Table => put_row(name, cases, found, writer),
+        Format::Csv => put_record(
+            name,
+            (passed_in(found), cases.len()),
+            reason_of(cases, found),
+            writer,
+        ),
         Format::Json => put_json(
             if is_first { b"\n" } else { b",\n" },
             name,
@@ -552,12 +587,18 @@ pub fn put_solution<A: Allocator + Copy, W: Output>(
     }
 }
 
+// Returns the word after this number of files.
+fn word_of_files(count: u64) -> &'static [u8] {
+    if count == 1 { b" file: " } else { b" files: " }
+}
+
 // Writes the line that states how many solutions there are, and how many of each kind.
 fn put_totals<W: Output>(totals: &Totals, writer: &mut W) -> Result<(), WriteFault> {
     let files = totals
         .passed
         .saturating_add(totals.failed)
         .saturating_add(totals.refused);
+    let word = word_of_files(files);
     let files = decimal(files);
     let passed = decimal(totals.passed);
     let failed = decimal(totals.failed);
@@ -565,7 +606,7 @@ fn put_totals<W: Output>(totals: &Totals, writer: &mut W) -> Result<(), WriteFau
     put_all(
         &[
             files.as_slice(),
-            b" files: ",
+            word,
             passed.as_slice(),
             b" passed, ",
             failed.as_slice(),

@@ -1,22 +1,23 @@
 //! Whether the end of a run meets the requirement of a line.
 
-ghost use Rattle.std.specs.Prelude.{◌≡◌, ◌↔◌, true, false, map, MatchOption};
+ghost use Rattle.std.specs.Prelude.{◌≡◌, ◌↔◌, true, false, map, IfOk, MatchOption};
 ghost use Rattle.std.specs.List.{list_all};
 ghost use Rattle.a2_bus.specs.View.{memory_of};
 ghost use Rattle.a2_effect.specs.View.{registers_of};
 ghost use Rattle.a2_text.specs.Words.{words};
 ghost use Rattle.a2_tests.specs.Requirements as asked;
+ghost use Rattle.a2_tests.specs.Settings.{tight as tight_text};
 ghost use Rattle.a2_tests.specs.Requirements.{IsFirstMissed, Meets, MeetsAll, MeetsFirst, end_at};
 
 use crate::line::{Line, NumberedLine, following};
 use crate::rows::{holds, row_is, rows_fit};
-use crate::settings::{byte_of, digits_in, name_in};
+use crate::settings::{byte_of, digits_in, name_in, tight};
 use a2_asm::{Program, Statement};
 use a2_cpu::Regs;
 use a2_machine::{Cause, Machine};
 use a2_opcode::Mnemonic;
-use a2_text::{first_word, number_in};
-use std::alloc::Allocator;
+use a2_text::{capital, first_word, number_in};
+use std::alloc::{AllocError, Allocator};
 
 /// The end of a run: the program of the source, the machine as the run left it, the stop cause, and the rows of its
 /// screen.
@@ -78,7 +79,7 @@ fn register_value(regs: Regs, name: &[u8]) -> Option<u8>
     ensures { result ≡ asked.register_byte (registers_of regs) name.now }
 {
     match name {
-        [c] => match *c {
+        [c] => match capital(*c) {
             b'A' => Some(regs.a),
             b'X' => Some(regs.x),
             b'Y' => Some(regs.y),
@@ -176,53 +177,83 @@ fn has_bytes<A: Allocator + Copy>(ending: &Ending<A>, place: &str, bytes: &[u8])
     }
 }
 
-// Returns whether the end of a run meets a line that is about the program or about counts.
-fn is_met_by<A: Allocator + Copy>(line: Line, rest: &[NumberedLine], ending: &Ending<A>) -> bool
+// Returns whether the register in each of these words has the value given there.
+fn registers_match<A: Allocator + Copy>(machine: &Machine<A>, settings: &[u8]) -> bool
+    ensures { result ≡ list_all (asked.register_matches (registers_of machine.now.state.regs)) (words settings.now) }
+{
+    first_different_register(machine, settings).is_none()
+}
+
+// Returns the same for a text with or without blanks around each `=`.
+fn settings_match<A: Allocator + Copy>(
+    alloc: A,
+    machine: &Machine<A>,
+    text: &[u8],
+) -> Result<bool, AllocError>
+    ensures { IfOk result (λ met. met ≡ list_all (asked.register_matches (registers_of machine.now.state.regs))
+        (words (tight_text text.now))) }
+{
+    let joined = tight(alloc, text)?;
+    Ok(registers_match(machine, joined.as_slice()))
+}
+
+// Returns whether the end of a run meets a line.
+fn is_met_by<A: Allocator + Copy>(
+    alloc: A,
+    line: Line,
+    rest: &[NumberedLine],
+    ending: &Ending<A>,
+) -> Result<bool, AllocError>
     requires { map (λ x. x.now) ending.now.rows.now ≡ asked.rows_of (memory_of ending.now.machine.now.state.bus) }
-    ensures { (result ≡ true) ↔ Meets line.entry rest.now ending.now.program.now
-        (end_at ending.now.machine.now.state ending.now.cause) }
+    ensures { IfOk result (λ met. (met ≡ true) ↔ Meets line.entry rest.now ending.now.program.now
+        (end_at ending.now.machine.now.state ending.now.cause)) }
 {
     match line {
-        Line::Screen => rows_fit(rest, ending.rows),
-        Line::Shows(number, text) => row_is(number, text, ending.rows),
-        Line::Holds(text) => holds(ending.rows, text),
-        Line::Mem(place, bytes) => has_bytes(ending, place, bytes),
-        Line::Reg(text) => first_different_register(ending.machine, text).is_none(),
-        Line::Stop(cause) => is_cause(ending.cause, cause),
-        Line::Cycles(most) => ending.machine.cycles() <= u64::from(most),
-        Line::Bytes(most) => size_of(ending.program.statements()) <= u128::from(most),
-        Line::Uses(mnemonic) => first_use_of(ending.program.statements(), mnemonic).is_some(),
-        Line::Avoids(mnemonic) => first_use_of(ending.program.statements(), mnemonic).is_none(),
-        _ => true,
+        Line::Screen => Ok(rows_fit(rest, ending.rows)),
+        Line::Shows(number, text) => Ok(row_is(number, text, ending.rows)),
+        Line::Holds(text) => Ok(holds(ending.rows, text)),
+        Line::Mem(place, bytes) => Ok(has_bytes(ending, place, bytes)),
+        Line::Reg(text) => Ok(settings_match(alloc, ending.machine, text)?),
+        Line::Stop(cause) => Ok(is_cause(ending.cause, cause)),
+        Line::Cycles(most) => Ok(ending.machine.cycles() <= u64::from(most)),
+        Line::Bytes(most) => Ok(size_of(ending.program.statements()) <= u128::from(most)),
+        Line::Uses(name) => Ok(first_use_of(ending.program.statements(), name).is_some()),
+        Line::Avoids(name) => Ok(first_use_of(ending.program.statements(), name).is_none()),
+        _ => Ok(true),
     }
 }
 
 // Returns whether the end of a run meets the first of these lines.
-fn is_met<A: Allocator + Copy>(lines: &[NumberedLine], ending: &Ending<A>) -> bool
+fn is_met<A: Allocator + Copy>(
+    alloc: A,
+    lines: &[NumberedLine],
+    ending: &Ending<A>,
+) -> Result<bool, AllocError>
     requires { map (λ x. x.now) ending.now.rows.now ≡ asked.rows_of (memory_of ending.now.machine.now.state.bus) }
-    ensures { (result ≡ true) ↔ MeetsFirst lines.now ending.now.program.now
-        (end_at ending.now.machine.now.state ending.now.cause) }
+    ensures { IfOk result (λ met. (met ≡ true) ↔ MeetsFirst lines.now ending.now.program.now
+        (end_at ending.now.machine.now.state ending.now.cause)) }
 {
     match lines {
-        [asked, rest @ ..] => is_met_by(asked.line, rest, ending),
-        [] => true,
+        [asked, rest @ ..] => Ok(is_met_by(alloc, asked.line, rest, ending)?),
+        [] => Ok(true),
     }
 }
 
 /// Returns the index of the first of these lines that the end of a run does not meet.
 pub(crate) fn first_missed<A: Allocator + Copy>(
+    alloc: A,
     lines: &[NumberedLine],
     ending: &Ending<A>,
-) -> Option<usize>
+) -> Result<Option<usize>, AllocError>
     requires { map (λ x. x.now) ending.now.rows.now ≡ asked.rows_of (memory_of ending.now.machine.now.state.bus) }
-    ensures { MatchOption result (MeetsAll lines.now ending.now.program.now
+    ensures { IfOk result (λ missed. MatchOption missed (MeetsAll lines.now ending.now.program.now
         (end_at ending.now.machine.now.state ending.now.cause))
-        (λ n. IsFirstMissed lines.now ending.now.program.now (end_at ending.now.machine.now.state ending.now.cause) n) }
+        (λ n. IsFirstMissed lines.now ending.now.program.now (end_at ending.now.machine.now.state ending.now.cause) n)) }
 {
     for index in 0..lines.len() {
-        if !is_met(following(lines, index), ending) {
-            return Some(index);
+        if !is_met(alloc, following(lines, index), ending)? {
+            return Ok(Some(index));
         }
     }
-    None
+    Ok(None)
 }
