@@ -15,9 +15,9 @@ use Rattle.a2_asm.specs.Programs.{begins_at}
 use Rattle.a2_check.specs.declared.warnings.WarningKind.{WarningKind}
 use Rattle.a2_check.specs.declared.warnings.WarningKind.TheVariants.{RunsOut, Circle}
 
--- `$` or a digit
+-- `$`, `%` or a digit
 abbrev pub begins_number : ℕ → Bool
-begins_number c = c == sign "$" || is_digit c
+begins_number c = c == sign "$" || (c == sign "%" || is_digit c)
 
 -- `=` and a number
 abbrev pub equals_number : List ℕ → Bool
@@ -52,9 +52,9 @@ leaves mnemonic = false
 abbrev pub leads_away : Instr → Bool
 leads_away i = leaves i.mnemonic || is_relative i.mode
 
--- an instruction jumps or branches to the value of its operand
+-- an instruction always jumps to the value of its operand
 abbrev pub jumps : Instr → Bool
-jumps i = is_relative i.mode || (is_absolute i.mode && is_jump i.mnemonic)
+jumps i = is_absolute i.mode && is_jump i.mnemonic
 
 -- an instruction begins at an address
 abbrev pub begins : List Statement → ℕ → Bool

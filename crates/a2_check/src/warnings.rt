@@ -28,7 +28,7 @@ pub enum WarningKind {
     Unwritten,
     /// No instruction begins after one that continues there.
     RunsOut,
-    /// An instruction jumps or branches to itself.
+    /// An instruction jumps to itself.
     Circle,
     /// A character with bit 7 clear is written to the screen.
     Plain,

@@ -6,9 +6,9 @@ use Rattle.a2_services.specs.World.{World}
 use Rattle.a2_asm.specs.Assembled.{Assembled}
 use Rattle.a2_run.specs.Started.{IsStarted}
 use Rattle.a2_history.specs.declared.Halt.{Halt}
-use Rattle.a2_symbols.specs.declared.routines.Entry.{Entry}
+use Rattle.a2_routines.specs.declared.routines.Entry.{Entry}
 use Rattle.a2_history.specs.Going.{Track, here, Advances, IsNewest, with_typed}
-use Rattle.a2_symbols.specs.Routines.{is_call}
+use Rattle.a2_routines.specs.Routines.{is_call}
 use Rattle.a2_history.specs.Routines.{entered, IsNewestOutside}
 use Rattle.a2_debugger.specs.Words.{IsVerb}
 use Rattle.a2_debugger.specs.Sayings.{IsCommandOf, IsNoCommand}

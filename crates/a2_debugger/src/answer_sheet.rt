@@ -12,7 +12,7 @@ use a2_machine::{Cause, Machine, write_registers};
 use a2_opcode::list_line;
 use a2_page::print;
 use a2_stream::{Kept, Output, WriteFault, put, put_all};
-use a2_symbols::{Scene, Span, put_address, put_place, statement_at};
+use a2_symbols::{Scene, Span, put_address, put_place, put_text, statement_at};
 use a2_text::{decimal, hex_pair, hex_word};
 use std::alloc::Allocator;
 
@@ -218,7 +218,8 @@ fn put_source_line<A: Allocator + Copy>(
     sheet.put(number.as_slice());
     if !text.is_empty() {
         sheet.put(&BEHIND_NUMBER[number.len().min(5)..]);
-        sheet.put(text);
+        let part = put_text(text, &mut sheet.text);
+        sheet.note(part);
     }
     sheet.put(b"\n");
 }

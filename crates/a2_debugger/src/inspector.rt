@@ -5,7 +5,7 @@ ghost use Rattle.a2_stream.specs.Stream.{SendsOrBreaks};
 ghost use Rattle.a2_machine.specs.State.{world_of_state};
 ghost use Rattle.a2_history.specs.Going.{here, AlarmsAreComplete};
 ghost use Rattle.a2_history.specs.Routines.{entered};
-ghost use Rattle.a2_symbols.specs.Routines.{is_call as is_call_of};
+ghost use Rattle.a2_routines.specs.Routines.{is_call as is_call_of};
 ghost use Rattle.a2_run.specs.Started.{guard_of_run};
 ghost use Rattle.a2_debugger.specs.Alerts.{WarnsOfStops};
 ghost use Rattle.a2_debugger.specs.Stops.{is_stop, is_changed_in};

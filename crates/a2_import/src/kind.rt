@@ -1,7 +1,7 @@
 //! Detecting the kind of an old text.
 
 use crate::dialect::{Dialect, Old};
-use crate::print::{after_printed, is_row};
+use crate::print::{after_printed, is_bytes, is_row};
 use crate::rules::dialect_of_word;
 use a2_text::{cut, first_word, split_word};
 use std::alloc::{AllocError, Allocator};
@@ -9,7 +9,8 @@ use std::alloc::{AllocError, Allocator};
 // The assembler to which one of the first two words of a line belongs.
 fn dialect_of_line(line: &[u8]) -> Option<Dialect> {
     let source = after_printed(line).unwrap_or(line);
-    if source.starts_with(b"*") || source.starts_with(b";") {
+    // A printed address, such as A004:, is no label.
+    if source.starts_with(b"*") || source.starts_with(b";") || is_bytes(source) {
         return None;
     }
     let (word, rest) = split_word(source);

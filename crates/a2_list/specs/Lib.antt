@@ -1,5 +1,4 @@
 pub mod Blanks
 pub mod Listing
 pub mod NameTable
-pub mod Reported
 pub mod Uses

@@ -7,8 +7,6 @@ mod blanks;
 mod cycles;
 mod listing;
 mod name_table;
-mod reported;
 mod uses;
 
 pub use listing::{Shown, list_source};
-pub use reported::list_or_report;

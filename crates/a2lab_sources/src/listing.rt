@@ -1,15 +1,14 @@
 //! The command `list`.
 
-ghost use Rattle.std.specs.Prelude.{◌≡◌, ◌≤◌, codes, IfOk};
+ghost use Rattle.std.specs.Prelude.{◌≡◌, codes, IfOk};
 ghost use Rattle.a2_arguments.specs.Found.{found_of, is_given};
 
 use a2_arguments::Arguments;
 use a2_host::Shelf;
-use a2_list::{Shown, list_or_report};
-use a2_run::fault_status;
+use a2_list::{Shown, list_source};
 use a2_stream::{Input, Output};
 use a2lab_commands::options::{CYCLES, NAMES};
-use a2lab_commands::{CommandArgs, Host, Refusal, text_of};
+use a2lab_commands::{CommandArgs, Host, Refusal, assembled_text, text_of};
 
 // Returns what a listing shows.
 fn shown_by(arguments: &Arguments<'_>) -> Shown
@@ -22,26 +21,23 @@ fn shown_by(arguments: &Arguments<'_>) -> Shown
     }
 }
 
-/// Prints the listing of a source. If the source has an error, the error and its line are reported. The exit status is 1 then, 4 if a
-/// write fails, and 5 if there is no memory.
+/// Prints the listing of a source. If the source has errors, they are reported as `check` does. The exit status is 1 then, 4 if a write
+/// fails, and 5 if there is no memory.
 #[inline(never)]
 pub fn list_of<'a, S: Shelf, D, C, R: Input, W: Output, E: Output>(
     given: &CommandArgs<'_, 'a>,
     host: &mut Host<S, D, C, R, W, E>,
 ) -> Result<u8, Refusal<'a>>
-    ensures { IfOk result (λ status. status ≤ 5) }
+    ensures { IfOk result (λ status. status ≡ 0) }
 {
     let file = given.arguments.file();
     let text = text_of(host.alloc, file, &mut host.shelf, &mut host.input)?;
-    let (source, shown) = (text.as_slice(), shown_by(given.arguments));
-    match list_or_report(
+    let assembled = assembled_text(host.alloc, file, text.as_slice(), &mut host.complaints)?;
+    list_source(
         host.alloc,
-        source,
-        shown,
+        &assembled,
+        shown_by(given.arguments),
         &mut host.output,
-        &mut host.complaints,
-    ) {
-        Ok(()) => Ok(0),
-        Err(fault) => Ok(fault_status(&fault)),
-    }
+    )?;
+    Ok(0)
 }

@@ -16,7 +16,7 @@ use std::alloc::Allocator;
 fn begins_number(c: u8) -> bool
     ensures { result ≡ warnings.begins_number c }
 {
-    c == b'$' || matches!(c, b'0'..=b'9')
+    c == b'$' || c == b'%' || matches!(c, b'0'..=b'9')
 }
 
 // Whether a text begins with `=` and a number.

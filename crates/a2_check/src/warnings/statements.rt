@@ -87,11 +87,11 @@ fn leads_away(instr: Instr) -> bool
     leaves || instr.mode == Mode::Relative
 }
 
-// Whether an instruction jumps or branches to the value of its operand.
+// Whether an instruction always jumps to the value of its operand.
 fn jumps(instr: Instr) -> bool
     ensures { result ≡ warnings.jumps instr }
 {
-    instr.mode == Mode::Relative || instr.mode == Mode::Absolute && instr.mnemonic == Mnemonic::Jmp
+    instr.mode == Mode::Absolute && instr.mnemonic == Mnemonic::Jmp
 }
 
 /// Returns the warning for a statement if it jumps to itself, or if it continues where no instruction begins. `begins` marks
