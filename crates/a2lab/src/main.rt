@@ -8,13 +8,15 @@ ghost use Rattle.a2_run.specs.declared.fault.RunFault.TheVariants.{Write as Writ
 
 mod clock;
 mod program;
+mod shown;
 
 use a2_host::{HostArgumentsFault, HostDesk, HostFiles, arguments_of};
 use a2_run::RunFault;
 use a2_stream::{FromRead, Output, ToWrite};
 use a2lab_commands::{Host, Message, Terminals, report, report_fault};
 use clock::HostClock;
-use program::{obey, talks};
+use program::{draws, obey, writes_at_once};
+use shown::Shown;
 use std::io::{BufWriter, IsTerminal, Write};
 use std::process::ExitCode;
 
@@ -58,15 +60,18 @@ fn finish<W: Write + Drop>(status: u8, lines: &mut BufWriter<W>) -> Result<u8, R
     }
 }
 
-// Does what the arguments ask for. In a session each answer is written at once. Otherwise many lines are written at once, and the errors
-// after all output, so that they are the last lines of a terminal.
+// Does what the arguments ask for. In a session each answer is written at once. Otherwise many lines are written together, and the errors
+// after all output, so that they are the last lines of a terminal. A terminal on which a session draws is given all bytes.
 fn act(rt: &HostRuntime, words: &[String]) -> Result<u8, RunFault> {
-    if talks(words) {
+    let is_drawn = draws(words);
+    let is_output_shown = rt.stdout().is_terminal() && !is_drawn;
+    let are_complaints_shown = rt.stderr().is_terminal() && !is_drawn;
+    if writes_at_once(words) {
         return Ok(obeyed(
             rt,
             words,
-            ToWrite::new(rt.stdout()),
-            ToWrite::new(rt.stderr()),
+            Shown::new(ToWrite::new(rt.stdout()), is_output_shown),
+            Shown::new(ToWrite::new(rt.stderr()), are_complaints_shown),
         ));
     }
     let (Ok(mut lines), Ok(mut complaints)) = (
@@ -78,8 +83,8 @@ fn act(rt: &HostRuntime, words: &[String]) -> Result<u8, RunFault> {
     let status = obeyed(
         rt,
         words,
-        ToWrite::new(&mut lines),
-        ToWrite::new(&mut complaints),
+        Shown::new(ToWrite::new(&mut lines), is_output_shown),
+        Shown::new(ToWrite::new(&mut complaints), are_complaints_shown),
     );
     let answer = finish(status, &mut lines);
     // After a failed write the rest is discarded; if `lines` were dropped, it would be written again.

@@ -17,7 +17,7 @@ use a2lab_promises::promise_of;
 use a2lab_reports::{film_of, profile_of, run_of, test_of, trace_of};
 use a2lab_sessions::{debug_of, mon_of, play_of};
 use a2lab_sources::{check_of, fmt_of, import_of, list_of};
-use std::alloc::Global;
+use std::alloc::{AllocError, Global};
 
 // Reports an unknown command and which one may be meant, and returns the exit status.
 fn report_unknown<E: Output>(alloc: Global, name: &str, complaints: &mut E) -> u8
@@ -40,22 +40,38 @@ fn report_unknown<E: Output>(alloc: Global, name: &str, complaints: &mut E) -> u
     2
 }
 
+// Returns the words of a name, with blanks between them.
+fn joined(alloc: Global, words: &[&str]) -> Result<Vec<u8>, AllocError> {
+    let mut name = Vec::new(alloc);
+    for word in words {
+        if !name.is_empty() {
+            name.push(b' ')?;
+        }
+        name.extend_from_slice((*word).as_bytes())?;
+    }
+    Ok(name)
+}
+
 // Prints what the manual says about a topic, or reports that it says nothing, and returns the exit status.
 fn explain_name<'a, S, D, C, R, W: Output, E: Output>(
-    name: &'a str,
+    name: &[u8],
     host: &mut Host<S, D, C, R, W, E>,
 ) -> Result<u8, Refusal<'a>>
     ensures { IfOk result (λ status. status ≤ 6) }
 {
-    let bytes = name.as_bytes();
-    if let Some(text) = topic(manual(), bytes) {
+    if let Some(text) = topic(manual(), name) {
         put(text, &mut host.output)?;
         return Ok(0);
     }
-    let Some(other) = near(host.alloc, manual(), bytes)? else {
-        return Err(Refusal::of(Message::UnknownTopic, name));
+    let Some(other) = near(host.alloc, manual(), name)? else {
+        report(
+            Message::UnknownTopic,
+            &[Value::Bytes(name)],
+            &mut host.complaints,
+        );
+        return Ok(2);
     };
-    let values = [Value::Text(name), Value::Bytes(other)];
+    let values = [Value::Bytes(name), Value::Bytes(other)];
     report(Message::UnknownTopicNear, &values, &mut host.complaints);
     Ok(2)
 }
@@ -67,15 +83,21 @@ fn help<'a, S, D, C, R, W: Output, E: Output>(
 ) -> Result<u8, Refusal<'a>>
     ensures { IfOk result (λ status. status ≤ 6) }
 {
-    let Some(name) = given.arguments.file() else {
+    let words = given.arguments.files.as_slice();
+    let Some(first) = given.arguments.file() else {
         put_page(&mut host.output)?;
         return Ok(0);
     };
-    let Some(row) = command_named(name) else {
-        return explain_name(name, host);
-    };
-    put_use(&row.command, &mut host.output)?;
-    Ok(0)
+    match command_named(first) {
+        Some(row) if words.len() == 1 => {
+            put_use(&row.command, &mut host.output)?;
+            Ok(0)
+        }
+        _ => {
+            let name = joined(host.alloc, words)?;
+            explain_name(name.as_slice(), host)
+        }
+    }
 }
 
 // Runs a command, and returns its exit status.
@@ -166,13 +188,30 @@ fn is_session(tool: Tool) -> bool {
     matches!(tool, Tool::Debug | Tool::Mon | Tool::Play)
 }
 
-/// Returns whether `words`, the first of which is the program's name, begin a session.
-pub fn talks(words: &[String]) -> bool {
+// Returns the command that `words` name, after the program's name.
+fn tool_in(words: &[String]) -> Option<Tool> {
     match words {
         [_, word, ..] => match command_named(word.as_str()) {
-            Some(row) => is_session(row.tool),
-            None => false,
+            Some(row) => Some(row.tool),
+            None => None,
         },
+        _ => None,
+    }
+}
+
+/// Returns whether what `words` ask for is written at once: the answers of a session, and what `promise` finds, which may take minutes.
+/// The first of `words` is the program's name.
+pub fn writes_at_once(words: &[String]) -> bool {
+    match tool_in(words) {
+        Some(tool) => is_session(tool) || matches!(tool, Tool::Promise),
+        None => false,
+    }
+}
+
+/// Returns whether `words` begin a session that draws on its terminal. The first of `words` is the program's name.
+pub fn draws(words: &[String]) -> bool {
+    match (tool_in(words), words) {
+        (Some(tool), [_, _, raw, ..]) => is_session(tool) && raw.as_str() == "--raw",
         _ => false,
     }
 }

@@ -72,6 +72,29 @@ const PLACES_AND_LINES: &str =
 added, as in NAME+2. P..P may be one place.
 ";
 
+// What help says of the lines of a test file.
+const WANT_LINES: &str = "WANT has lines of these forms:
+
+  case NAME                begins a case
+  keys K                   types the keys K, as --keys K does
+  limit N                  stops the run after N steps
+  call NAME A=05 $320=07   calls the routine NAME with these bytes
+  screen                   the rows of the screen are on the next lines
+  |TEXT                    a row of the screen, after a line screen
+  screen row 0 = \"TEXT\"    a row of the screen is TEXT; the top row is 0
+  screen holds \"TEXT\"      some row of the screen contains TEXT
+  mem $320 = A9 01         memory holds these bytes at the end
+  reg A=E9 X=00            registers hold these bytes at the end
+  stop RETURNED            the run stops with this cause
+  cycles <= N              the run takes at most N cycles
+  bytes <= N               the code has at most N bytes
+  must use BNE             an instruction is a BNE
+  must not use BNE         no instruction is a BNE
+
+Blank lines, and lines that begin with ;, are ignored. a2lab help WANT says
+more.
+";
+
 /// All commands, in the order of the help page.
 static TOOLS: [Tool; 14] = [
     Tool::Run,
@@ -210,7 +233,7 @@ fn test_row() -> CommandRow {
                 most: usize::MAX,
             },
             options: &TEST_OPTIONS,
-            notes: "",
+            notes: WANT_LINES,
         },
     }
 }
@@ -263,7 +286,7 @@ fn play_row() -> CommandRow {
             files: NAMED_SOURCE,
             options: &PLAY_OPTIONS,
             notes: "Keys go to the program. Ctrl-] and a letter is a command: q quits, p pauses and
-goes on, s makes a step, b goes back a second, d opens the debugger, + and -
+continues, s makes a step, b goes back a second, d opens the debugger, + and -
 change the pace, r starts again, k prints the keys at the end, l redraws.
 ",
         },
@@ -288,12 +311,12 @@ fn help_row() -> CommandRow {
         tool: Tool::Help,
         command: Command {
             name: "help",
-            summary: "prints this page, or explains a command, an error, an instruction or a service",
+            summary: "prints this page, or explains a command, an error, an instruction, a service or a word",
             files: Files {
                 form: "[NAME]",
                 endings: "",
                 least: 0,
-                most: 1,
+                most: usize::MAX,
             },
             options: &[],
             notes: "",

@@ -86,8 +86,18 @@ fn put_fault<'a, W: Output>(
 ) -> Result<(), WriteFault> {
     match fault {
         ArgumentFault::Unknown(option) => put_unknown(alloc, command, option, writer),
-        ArgumentFault::Repeated(option) => put_three(option, " is given twice", "", writer),
-        ArgumentFault::Missing(option) => put_three(option, " needs a value", "", writer),
+        ArgumentFault::Repeated(option) => put_three(
+            option,
+            " is given twice",
+            "; give it once",
+            writer,
+        ),
+        ArgumentFault::Missing(option) => put_three(
+            option,
+            " needs a value; see a2lab help ",
+            command.name,
+            writer,
+        ),
         ArgumentFault::Needless(option, value) => {
             put_three(option, " takes no value; found ", value, writer)
         }

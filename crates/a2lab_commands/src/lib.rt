@@ -38,6 +38,6 @@ pub use naming::nearest_command;
 pub use refusal::Refusal;
 pub use terminals::{Terminal, Terminals, colours_named, terminal_in};
 pub use timed::{
-    Recording, TimedRunArgs, check_recording, ended_of, first_named, record_in, report_untyped,
-    strokes_of, timed_run_args, typed_refusal,
+    Recording, TimedRunArgs, ended_of, first_named, record_in, report_untyped, strokes_of,
+    timed_run_args, typed_refusal,
 };

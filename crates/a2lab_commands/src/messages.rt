@@ -30,7 +30,7 @@ pub enum Message {
     CallsWithOption,
     ScriptLine,
     PageOverwrites,
-    TestLine,
+    SourceAsTests,
     NoPromise,
     NoFailure,
     FilmOverwrites,
@@ -44,8 +44,12 @@ pub enum Message {
     PlayWithoutTerminal,
     PlayWithoutKeys,
     SmallTerminal,
+    PanesWithoutTerminal,
     SmallTerminalForPanes,
 }
+
+/// The most keys that can wait.
+pub(crate) const MOST_KEYS: u64 = 4096;
 
 /// A value that a message names.
 #[derive(Clone, Copy)]
@@ -64,12 +68,13 @@ fn sentence(message: Message) -> &'static str {
         Message::UnknownCommandNear => "unknown command @; did you mean @?",
         Message::FileForCommand => "unknown command @; did you mean a2lab run @?",
         Message::BadKeys =>
-            "@: --keys @: expected at most 4096 keys: the characters from space to ~, \\r for RETURN, \\b and \\f for the arrows, \\x for Ctrl-X, \\\\ for \\",
+            "@: --keys @: expected at most @ keys, which are the characters from space to ~, \\r for RETURN, \\b and \\f for the arrows, \\x for Ctrl-X, and \\\\ for \\",
         Message::UnknownTopic =>
-            "help: unknown topic @; topics are commands, errors, causes of a stop, mnemonics, services and locations",
+            "help: unknown topic @; name a command, an error such as E7, a cause of a stop such as LIMIT, an instruction such as LDA, a service such as COUT, a location such as $24, or a word such as STACK",
         Message::UnknownTopicNear => "help: unknown topic @; did you mean @?",
-        Message::CannotOpen => "cannot open @",
-        Message::CannotRead => "@: cannot read @",
+        Message::CannotOpen => "cannot open @; check its name and its permissions",
+        Message::CannotRead =>
+            "@: cannot read @; check its name and its permissions, and that it is not a folder",
         Message::NeedsFile =>
             "@: needs a file, because standard input is for what you type (a2lab help @)",
         Message::UnknownPlace =>
@@ -79,34 +84,35 @@ fn sentence(message: Message) -> &'static str {
         Message::KeysAtForm =>
             "@: --keys-at @: expected a number of steps from 0 to 100000000, a colon and keys, such as 1200:HI\\r",
         Message::KeysAtKeys =>
-            "@: --keys-at @: expected keys: the characters from space to ~, \\r for RETURN, \\b and \\f for the arrows, \\x for Ctrl-X, \\\\ for \\",
+            "@: --keys-at @: expected at most @ keys, which are the characters from space to ~, \\r for RETURN, \\b and \\f for the arrows, \\x for Ctrl-X, and \\\\ for \\",
         Message::KeysAtFull =>
-            "@: more than 4096 keys would be waiting after step @; type some of them later",
+            "@: after step @, more than @ keys would be waiting; type some of them later",
         Message::KeysAtUntyped =>
-            "@: the run ended after @ steps, so the keys for step @ were not typed",
+            "@: the run ended after step @, so the keys for step @ were not typed; type them earlier, or give a higher --limit",
         Message::RecordLine =>
             "--replay @, line @: expected a number of steps and the code of a key, as in 1200 41; the last line is as in 2000 END",
         Message::RecordOfAnotherSource =>
             "@: --replay @: this is a recording of another source; give the source that was played",
         Message::ReplayWithOption =>
-            "--replay cannot be combined with @, because the recording has the keys and the steps",
+            "--replay cannot be combined with @, because a session is repeated with its own keys and with the guard; leave @ out",
         Message::SessionNotReached =>
             "debug: --replay @: this is a recording of another source, or of more than 100000000 steps; give the source that was played",
         Message::CallsWithOption =>
             "trace: --calls cannot be combined with @, because --calls shows the routines of the whole run; leave one of them out",
         Message::ScriptLine =>
-            "film: @, line @: not a chapter; write 120 TEXT or line 12 TEXT (a2lab help film)",
+            "film: @, line @: not a chapter; write `120 TEXT` or `line 12 TEXT` (a2lab help film)",
         Message::PageOverwrites => "film: the page would overwrite @; give -o another name",
-        Message::TestLine =>
-            "test: @, line @: expected case, keys, limit, call, screen, mem, reg, stop, cycles, bytes or must, not: @",
+        Message::SourceAsTests =>
+            "test: @ looks like a source; the test file comes first, as in a2lab test WANT @",
         Message::NoPromise =>
-            "promise: @ has no promises; write lines such as ;: ensures A = old A + 1 before a label (a2lab help promise)",
+            "promise: @ has no promises; write lines such as `;: ensures A = old A + 1` before a label (a2lab help promise)",
         Message::NoFailure => "promise: no routine failed, so the film @ was not written",
         Message::FilmOverwrites => "promise: the film would overwrite @; give --film another name",
         Message::CannotLayOut =>
             "fmt: @: unchanged, because in columns it would be longer than 65536 bytes or would no longer mean the same; split the file, or lay it out by hand",
         Message::CheckWithWrite => "fmt: --check and -w cannot be combined; give one of them",
-        Message::SeveralFiles => "fmt: several files need --check or -w",
+        Message::SeveralFiles =>
+            "fmt: only one file can be printed; give --check or -w for several files",
         Message::WriteWithoutFiles => "fmt: -w needs the names of the files to rewrite",
         Message::KeysOverwrite => "play: the keys would overwrite @; give --record another name",
         Message::KeysNotWritten =>
@@ -118,8 +124,10 @@ fn sentence(message: Message) -> &'static str {
         Message::PlayWithoutKeys =>
             "play: the terminal is not set up for keys; start it with the command a2lab, not with the program lib/a2/a2lab",
         Message::SmallTerminal => "play: the terminal has @x@ characters; make it at least 80x24",
+        Message::PanesWithoutTerminal =>
+            "debug: --tui: standard input, output and error must be a terminal; leave --tui out to use files or pipes",
         Message::SmallTerminalForPanes =>
-            "debug: --tui needs a terminal of at least 80 columns and 24 rows",
+            "debug: --tui: the terminal has @x@ characters; make it at least 80x24",
     }
 }
 

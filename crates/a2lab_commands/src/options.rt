@@ -1,11 +1,12 @@
-//! The options of the commands: a row for each, and the list of each command.
+//! The options of the commands: a row for each option, and a list of options for each command.
 //!
 //! `tests/commands` reads these rows as they are laid out here.
 
 use a2_arguments::{OptionRow, Value};
 
-// A row: the kind of its value, its name, the name of its value, which values it takes, what is used without it, and its sentence. An
-// option of `Texts` may be given more than once.
+// Makes the row of an option. It begins with the kind of value and the option's name. An option with a value then has a name for the
+// value, the values that are allowed if not all are, and, after `or`, the default. The last part is the sentence of the help page. A
+// `Flag` has no value. An option of the kind `Texts` may be given several times.
 macro_rules! row {
     (Flag $name:literal, $sentence:literal) => {
         OptionRow {
@@ -62,7 +63,7 @@ macro_rules! row {
     };
 }
 
-// Of every run.
+// Options of all commands that run a program.
 
 pub const KEYS: OptionRow = row!(Text "--keys" "K" or "",
     "Types the keys K, which all wait from the start of the run; \\r is RETURN.");
@@ -71,17 +72,20 @@ pub const LIMIT: OptionRow = row!(Number "--limit" "N" 0 to 100_000_000 or "1000
     "Stops the run after N steps.");
 
 pub const FREE: OptionRow = row!(Flag "--free",
-    "Runs without the guard: code may begin anywhere, and may be overwritten.");
+    "Lets the program run code anywhere, and change its own code: the run is not guarded.");
 
-// Of runs in which keys are typed.
+// Options of commands that can type keys during a run.
 
 pub const KEYS_AT: OptionRow = row!(Texts "--keys-at" "N:K",
     "Types the keys K after N steps, such as 1200:HI\\r.");
 
 pub const REPLAY: OptionRow = row!(Text "--replay" "T" or "",
-    "Repeats the session that a2lab play --record T recorded; not with --keys, --keys-at or --free.");
+    "Repeats the session that a2lab play --record T recorded; cannot be combined with --keys, --keys-at or --free.");
 
-// Of `run`.
+// Options of `run`.
+
+pub const ATTRIBUTES: OptionRow = row!(Flag "--attr",
+    "Prints after the picture how each character is shown: normal, inverse or flashing.");
 
 pub const MEM: OptionRow = row!(Texts "--mem" "P..P",
     "Prints, after the run, the bytes of RAM from one place to another.");
@@ -92,13 +96,13 @@ pub const SAVE: OptionRow = row!(Text "--save" "IMAGE" or "",
 pub const LAST: OptionRow = row!(Number "--last" "N" 0 to 100_000_000 or "",
     "Prints the last N steps on standard error, as trace does.");
 
-// Of `check`.
+// Options of `check`.
 
 pub const CHECK_FORMAT: OptionRow =
     row!(OneOf "--format" "FORMAT" ["long", "short", "json"] or "long",
     "Prints errors in full (long), one per line for editors (short), or as JSON.");
 
-// Of `list`.
+// Options of `list`.
 
 pub const CYCLES: OptionRow = row!(Flag "--cycles",
     "Adds the cycles of each instruction; + means that the instruction may take more cycles.");
@@ -106,7 +110,7 @@ pub const CYCLES: OptionRow = row!(Flag "--cycles",
 pub const NAMES: OptionRow = row!(Flag "--names",
     "Adds at the end a table of the names: the line that defines each, and those that use it.");
 
-// Of `trace`.
+// Options of `trace`.
 
 pub const CALLS: OptionRow = row!(Flag "--calls",
     "Shows the routines of the whole run as a tree, instead of its steps.");
@@ -123,7 +127,7 @@ pub const ONLY: OptionRow = row!(Text "--only" "P..P" or "",
 pub const STORES: OptionRow = row!(Text "--stores" "P..P" or "",
     "Shows only steps that store at these places.");
 
-// Of `profile`.
+// Options of `profile`.
 
 pub const BY: OptionRow = row!(OneOf "--by" "UNIT" ["line", "routine"] or "line",
     "Counts by line, or by routine: code that a JSR entered.");
@@ -135,7 +139,7 @@ pub const PROFILE_FORMAT: OptionRow =
 pub const PROFILE_KEYS: OptionRow = row!(Texts "--keys" "K",
     "Types the keys K, which all wait from the start; each --keys makes a run, and the counts are added up.");
 
-// Of `film`.
+// Options of `film`.
 
 pub const PAGE: OptionRow = row!(Text "-o" "PAGE" or "",
     "Writes the page to the file PAGE.");
@@ -150,9 +154,9 @@ pub const FILM_LIMIT: OptionRow = row!(Number "--limit" "N" 0 to 1_000_000 or ""
     "Stops the run after N steps; --from and --steps film a part of a longer run.");
 
 pub const SCRIPT: OptionRow = row!(Text "--script" "S" or "",
-    "Takes the chapters of a lesson from the file S: 120 TEXT begins at step 120, and line 12 TEXT when line 12 comes next.");
+    "Takes the chapters of a lesson from the file S. The line `120 TEXT` begins a chapter at step 120; `line 12 TEXT` begins one when line 12 first comes next.");
 
-// Of `fmt`.
+// Options of `fmt`.
 
 pub const CHECK: OptionRow = row!(Flag "--check",
     "Prints only the names of files that are not in columns; the exit status is 6 if there is such a file.");
@@ -160,19 +164,19 @@ pub const CHECK: OptionRow = row!(Flag "--check",
 pub const WRITE: OptionRow = row!(Flag "-w",
     "Rewrites each file that is not in columns.");
 
-// Of `import`.
+// Options of `import`.
 
 pub const DIALECT: OptionRow =
     row!(OneOf "--from" "WHAT" ["auto", "sc", "lisa", "merlin", "edasm", "ca65", "listing"] or "auto",
     "Says what F is: a source for this assembler, or a listing of the Monitor; auto finds it out from the text.");
 
-// Of `test`.
+// Options of `test`.
 
 pub const TEST_FORMAT: OptionRow =
     row!(OneOf "--format" "FORMAT" ["table", "csv", "json", "junit"] or "table",
     "Writes the results in this format.");
 
-// Of `promise`.
+// Options of `promise`.
 
 pub const STATES: OptionRow = row!(Number "--states" "N" 1 to 100_000_000 or "",
     "Tries all states if there are at most N, and N of the states otherwise. The default is all if there are at most 16777216, and 1000000 otherwise.");
@@ -180,7 +184,7 @@ pub const STATES: OptionRow = row!(Number "--states" "N" 1 to 100_000_000 or "",
 pub const FILM: OptionRow = row!(Text "--film" "PAGE" or "",
     "Writes to the file PAGE the film of the first run that fails.");
 
-// Of sessions.
+// Options of `mon`, `play` and `debug`.
 
 pub const MONITOR_PLAIN: OptionRow = row!(Flag "--plain",
     "Shows no names or lines of a source beside the answers.");
@@ -194,6 +198,9 @@ pub const RECORD: OptionRow = row!(Text "--record" "T" or "",
 pub const COLOURS: OptionRow = row!(OneOf "--colours" "C" ["full", "256", "none"] or "",
     "Shows lo-res in these colours; the default is the colours that the terminal has.");
 
+pub const SPEAKER: OptionRow = row!(Flag "--speaker",
+    "Reports when the program moves the speaker, for a page that plays the sound.");
+
 pub const TUI: OptionRow = row!(Flag "--tui",
     "Shows panes of source, registers, stack, memory and screen, in a terminal of at least 80x24.");
 
@@ -206,7 +213,9 @@ pub const DEBUGGER_PLAIN: OptionRow = row!(Flag "--plain",
 pub const KEEP: OptionRow = row!(Number "--keep" "N" 20 to 100_000_000 or "540",
     "Keeps at most N copies of the machine, 124 KB each, for going back.");
 
-pub static RUN_OPTIONS: [OptionRow; 8] = [KEYS, LIMIT, FREE, MEM, SAVE, LAST, KEYS_AT, REPLAY];
+pub static RUN_OPTIONS: [OptionRow; 9] = [
+    KEYS, LIMIT, FREE, ATTRIBUTES, MEM, SAVE, LAST, KEYS_AT, REPLAY,
+];
 
 pub static CHECK_OPTIONS: [OptionRow; 1] = [CHECK_FORMAT];
 
@@ -240,7 +249,7 @@ pub static PROMISE_OPTIONS: [OptionRow; 2] = [STATES, FILM];
 
 pub static MON_OPTIONS: [OptionRow; 1] = [MONITOR_PLAIN];
 
-pub static PLAY_OPTIONS: [OptionRow; 3] = [PACE, RECORD, COLOURS];
+pub static PLAY_OPTIONS: [OptionRow; 4] = [PACE, RECORD, COLOURS, SPEAKER];
 
 pub static DEBUG_OPTIONS: [OptionRow; 8] = [
     KEYS,

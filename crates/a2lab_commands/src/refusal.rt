@@ -3,7 +3,8 @@
 ghost use Rattle.std.specs.Prelude.{◌≤◌};
 
 use crate::fault_report::report_fault;
-use crate::messages::{Message, Value, report};
+use crate::messages::{MOST_KEYS, Message, Value, report};
+use crate::terminals::Terminal;
 use a2_run::{ReadingFault, RunFault};
 use a2_stream::{Output, WriteFault};
 use std::alloc::AllocError;
@@ -61,6 +62,12 @@ impl<'a> Refusal<'a> {
         Refusal::Message(message, Value::Text(first), Value::Text(second))
     }
 
+    /// The error of a terminal that is too small. The message has its columns and its rows.
+    pub fn of_terminal(message: Message, terminal: Terminal) -> Refusal<'a> {
+        let (columns, rows) = (u64::from(terminal.columns), u64::from(terminal.rows));
+        Refusal::Message(message, Value::Number(columns), Value::Number(rows))
+    }
+
     /// Reports the error, and returns the exit status.
     pub fn report<E: Output>(self, complaints: &mut E) -> u8
         ensures { result ≤ 5 }
@@ -72,9 +79,10 @@ impl<'a> Refusal<'a> {
                 return 4;
             }
             Refusal::Reported => return 1,
+            // (only the messages about keys have a third value)
             Refusal::Message(message, first, second) => report(
                 message,
-                &[first, second],
+                &[first, second, Value::Number(MOST_KEYS)],
                 complaints,
             ),
         }

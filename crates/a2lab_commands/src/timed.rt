@@ -141,7 +141,7 @@ fn replay_args<'a, S: Shelf, D, C, R, W, E: Output>(
 ) -> Result<TimedRunArgs<'a>, Refusal<'a>> {
     let options = given.arguments.options.as_slice();
     if let Some(other) = first_named(options, &[KEYS.name, KEYS_AT.name, FREE.name]) {
-        return Err(Refusal::of(Message::ReplayWithOption, other));
+        return Err(Refusal::of_two(Message::ReplayWithOption, other, other));
     }
     let record = record_in(name, host)?;
     let Some(end) = end_of(&record) else {
@@ -197,8 +197,8 @@ pub fn typed_refusal<'a>(name: &'static str, fault: TypedFault) -> Refusal<'a> {
     }
 }
 
-/// Reports a run that ended before the session that it repeats, and then ends the command.
-pub fn check_recording<'a, E: Output>(
+// Reports a run that ended before the session that it repeats, and then ends the command.
+fn check_recording<'a, E: Output>(
     asked: &TimedRunArgs<'_>,
     steps: u64,
     complaints: &mut E,

@@ -9,6 +9,8 @@ use a2_host::{Desk, Shelf};
 use a2_machine::Cause;
 use a2_run::{AssembledText, RunFault};
 use a2_stream::{Input, Output};
+use a2_symbols::report_stop;
+use a2_timed_keys::Ended;
 use a2lab_commands::options::{FILM_FROM, FILM_LIMIT, PAGE, SCRIPT, STEPS};
 use a2lab_commands::{
     CommandArgs, Host, Message, Refusal, TimedRunArgs, Value, assembled_text, ended_of,
@@ -47,7 +49,10 @@ fn film_args<'a>(arguments: &Arguments<'a>) -> FilmArgs<'a> {
 
 // The part of a run that a film shows; `limit` is the most steps of the run, if given.
 fn window_of(film: &FilmArgs<'_>, limit: Option<u32>) -> Window {
-    let from = film.from;
+    let from = match limit {
+        Some(limit) => film.from.min(limit),
+        None => film.from,
+    };
     let left = match limit {
         Some(limit) => limit.saturating_sub(from),
         None => FILM_MAX_STEPS,
@@ -81,7 +86,7 @@ pub fn film_into<D: Desk>(
     page: &str,
     desk: &mut D,
 ) -> Result<Cause, RunFault>
-    ensures { FilmsInto assembled.now.text titles.entry.title.now titles.entry.chapters.now run.entry.free run.entry.ended.now
+    ensures { FilmsInto assembled.now.text titles.entry.title.now titles.entry.chapters.now run.entry.ended.now
         run.entry.window page.now (D.files desk.old) (D.files desk.new) result }
 {
     let mut draft = desk.begin(page)?;
@@ -103,6 +108,31 @@ fn film<S, D: Desk, C, R, W: Output, E>(
     }
 }
 
+// Returns the title of the film of a file: its name without a folder, or the program's name for standard input.
+fn title_of(file: Option<&str>) -> &str {
+    let path = file.unwrap_or("a2");
+    match path.rsplit_once('/') {
+        Some((_, name)) => name,
+        None => path,
+    }
+}
+
+// Reports why a filmed run stopped, if it stopped early and not at the end of a recording.
+fn report_early_stop<E: Output>(
+    alloc: Global,
+    assembled: &AssembledText<'_>,
+    ended: &Ended<'_>,
+    timed: &TimedRunArgs<'_>,
+    complaints: &mut E,
+) {
+    let (machine, cause) = (ended.machine(), ended.cause());
+    if stop_status(cause) == 0 || timed.is_at_end(machine.steps()) {
+        return;
+    }
+    // If this fails, there is no place left to report it.
+    let _ = report_stop(alloc, assembled, machine.regs().pc, cause, complaints);
+}
+
 // Runs a source, and writes the film of a part of the run to `page` or to the output. Returns the exit status.
 fn film_window<'a, S, D: Desk, C, R, W: Output, E: Output>(
     assembled: &AssembledText<'_>,
@@ -118,9 +148,9 @@ fn film_window<'a, S, D: Desk, C, R, W: Output, E: Output>(
     let run = FilmedRun {
         ended: &ended,
         window,
-        free: timed.run.free,
     };
     let cause = film(assembled, titles, run, page, host)?;
+    report_early_stop(host.alloc, assembled, &ended, timed, &mut host.complaints);
     timed.report_untyped(ended.machine().steps(), &mut host.complaints);
     Ok(stop_status(cause))
 }
@@ -159,7 +189,7 @@ pub fn film_of<'a, S: Shelf, D: Desk, C, R: Input, W: Output, E: Output>(
     };
     let assembled = assembled_text(alloc, file, text.as_slice(), &mut host.complaints)?;
     let titles = Titles {
-        title: file.unwrap_or("a2").as_bytes(),
+        title: title_of(file).as_bytes(),
         chapters: chapters.as_slice(),
     };
     film_window(&assembled, titles, &timed, window, asked.page, host)

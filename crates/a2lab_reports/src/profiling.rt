@@ -3,6 +3,7 @@
 ghost use Rattle.std.specs.Prelude.{◌≤◌, IfOk};
 
 use a2_arguments::Arguments;
+use a2_asm::Program;
 use a2_bus::Keys;
 use a2_host::Shelf;
 use a2_machine::{Cause, write_cause};
@@ -14,8 +15,8 @@ use a2_stream::{Input, Output, put_all};
 use a2_text::decimal;
 use a2lab_commands::options::{BY, PROFILE_FORMAT, PROFILE_KEYS};
 use a2lab_commands::{
-    CommandArgs, Host, Refusal, TimedRunArgs, assembled_text, keys_in, stop_status, text_of,
-    timed_run_args, typed_refusal,
+    CommandArgs, Host, Refusal, TimedRunArgs, assembled_text, ended_of, keys_in, stop_status,
+    text_of, timed_run_args, typed_refusal,
 };
 use std::alloc::Global;
 
@@ -101,6 +102,19 @@ fn report_ends<E: Output>(causes: &[Cause], spellings: &[&str], complaints: &mut
     }
 }
 
+// Reports a recording of another source, and then ends the command before the profile is written.
+fn check_recording<'a, E: Output>(
+    alloc: Global,
+    program: &Program<Global>,
+    timed: &TimedRunArgs<'_>,
+    complaints: &mut E,
+) -> Result<(), Refusal<'a>> {
+    if timed.recording.is_some() {
+        ended_of(alloc, program, timed, complaints)?;
+    }
+    Ok(())
+}
+
 // Profiles the runs of a source, and returns the cause of each stop.
 fn profile<W: Output>(
     alloc: Global,
@@ -148,6 +162,7 @@ pub fn profile_of<'a, S: Shelf, D, C, R: Input, W: Output, E: Output>(
     let (alloc, file) = (host.alloc, timed.run.file);
     let text = text_of(alloc, file, &mut host.shelf, &mut host.input)?;
     let assembled = assembled_text(alloc, file, text.as_slice(), &mut host.complaints)?;
+    check_recording(alloc, assembled.program(), &timed, &mut host.complaints)?;
     let causes = match profile(alloc, &assembled, &timed, &asked, &mut host.output) {
         Ok(causes) => causes,
         Err(fault) => return Err(refusal_of(timed.command, fault)),

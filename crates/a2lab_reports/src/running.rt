@@ -8,14 +8,14 @@ use a2_arguments::Arguments;
 use a2_asm::Program;
 use a2_explain::explain_stop;
 use a2_host::{Desk, Shelf};
-use a2_machine::Cause;
+use a2_machine::{Cause, Machine};
 use a2_memory::{Part, write_parts};
-use a2_page::print;
+use a2_page::{print, print_attributes};
 use a2_run::{AssembledText, RunFault};
-use a2_stream::{Input, Output};
+use a2_stream::{Input, Output, WriteFault};
 use a2_timed_keys::Ended;
 use a2_trace::{Choice, trace_source};
-use a2lab_commands::options::{LAST, MEM, SAVE};
+use a2lab_commands::options::{ATTRIBUTES, LAST, MEM, SAVE};
 use a2lab_commands::{
     CommandArgs, Host, Message, Refusal, TimedRunArgs, assembled_text, end_status, ended_of,
     put_end_state, refuse_overwriting_input, report_fault, text_of, timed_run_args,
@@ -35,6 +35,8 @@ fn part_in<'a>(program: &Program<Global>, text: &'a str) -> Result<Part, Refusal
 /// What the options of `run` ask for during the run and after it.
 #[derive(Drop)]
 pub struct AfterRun<'a> {
+    /// Whether it is printed how each character is shown.
+    pub attributes: bool,
     /// The parts of memory to print.
     pub parts: Vec<Part>,
     /// The file to which all of RAM is written.
@@ -68,6 +70,7 @@ fn after_run_of<'a>(
     arguments: &Arguments<'a>,
 ) -> Result<AfterRun<'a>, Refusal<'a>> {
     Ok(AfterRun {
+        attributes: arguments.has(&ATTRIBUTES),
         parts: parts_of(alloc, program, arguments)?,
         image: arguments.text(&SAVE),
         last: arguments.number(&LAST),
@@ -136,6 +139,20 @@ fn report_run<E: Output>(
     timed.report_untyped(ended.machine().steps(), complaints);
 }
 
+// Prints the screen, and then how its characters are shown if that is asked for.
+fn put_screen<W: Output>(
+    machine: &Machine<Global>,
+    attributes: bool,
+    output: &mut W,
+) -> Result<(), WriteFault> {
+    let view = machine.view();
+    print(&view, output)?;
+    if attributes {
+        print_attributes(&view, output)?;
+    }
+    Ok(())
+}
+
 // Runs a source, prints what the run leaves, reports why it stopped, and does what else the options ask for. The exit status is that of
 // the run.
 fn run_assembled<'a, S, D: Desk, C, R, W: Output, E: Output>(
@@ -149,7 +166,7 @@ fn run_assembled<'a, S, D: Desk, C, R, W: Output, E: Output>(
     let alloc = host.alloc;
     let ended = ended_of(alloc, assembled.program(), timed, &mut host.complaints)?;
     let cause = cause_of(&ended, timed);
-    print(&ended.machine().view(), &mut host.output)?;
+    put_screen(ended.machine(), asked.attributes, &mut host.output)?;
     put_end_state(ended.machine(), cause, &mut host.output)?;
     report_run(alloc, assembled, &ended, timed, &mut host.complaints);
     report_last_steps(alloc, &ended, asked.last, &mut host.complaints);

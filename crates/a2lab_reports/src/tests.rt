@@ -3,17 +3,19 @@
 ghost use Rattle.std.specs.Prelude.{◌≤◌, IfOk};
 
 use a2_arguments::Arguments;
+use a2_check::Format::Long;
+use a2_check::{put_refusals, refusals_of};
 use a2_host::Shelf;
 use a2_run::{AssembledText, ReadingFault, RunFault, read_text};
-use a2_stream::{Input, Output};
+use a2_stream::{Input, Output, ToWrite, put};
 use a2_tests::{
-    Case, Format, Found, Line, NumberedLine, Totals, cases_of, judge_source, lines_of, put_head,
-    put_solution, put_tail,
+    Case, Format, Found, Line, NumberedLine, SourceErrors, Totals, cases_of, judge_source,
+    lines_of, put_head, put_line_fault, put_solution, put_tail,
 };
 use a2_text::cut;
 use a2lab_commands::options::TEST_FORMAT;
 use a2lab_commands::{CommandArgs, Host, Message, Refusal, Value, is_input, report};
-use std::alloc::Global;
+use std::alloc::{AllocError, Global};
 
 // The exit status if a solution did not pass all cases.
 const NOT_PASSED: u8 = 6;
@@ -47,28 +49,54 @@ fn after_want<'a>(files: &'a [&'a str]) -> &'a [&'a str] {
 // The most unknown lines that are reported.
 const MOST_UNKNOWN: usize = 20;
 
-// Reports the unknown lines of a test file, at most 20, and returns how many there are.
-fn report_unknown<'a, E: Output>(
-    want: &'a str,
+// Reports the unknown lines of a test file, at most 20.
+fn report_unknown<E: Output>(
+    alloc: Global,
+    want: &str,
     lines: &[NumberedLine],
-    texts: &[&'a [u8]],
+    texts: &[&[u8]],
     complaints: &mut E,
-) -> usize {
+) {
     let mut count: usize = 0;
     for (asked, text) in lines.iter().zip(texts) {
         if let Line::Unknown = asked.line {
             count = count.saturating_add(1);
             if count <= MOST_UNKNOWN {
-                let values = [
-                    Value::Text(want),
-                    Value::Number(asked.number as u64),
-                    Value::Bytes(*text),
-                ];
-                report(Message::TestLine, &values, complaints);
+                // If a write fails, there is no place left to report it.
+                let _ = put(b"a2lab: test: ", complaints);
+                let _ = put_line_fault(alloc, want, asked.number, *text, complaints);
             }
         }
     }
-    count
+}
+
+// Returns whether a line is in none of the forms of a test file.
+fn is_any_unknown(lines: &[NumberedLine]) -> bool {
+    for asked in lines {
+        if let Line::Unknown = asked.line {
+            return true;
+        }
+    }
+    false
+}
+
+// Returns whether a text that is not a test file looks like a source: by its name, or because it is one.
+fn looks_like_source(alloc: Global, name: &str, text: &[u8]) -> bool {
+    name.ends_with(".s") || AssembledText::of(alloc, text).is_ok()
+}
+
+// Returns the lines that are neither blank nor comments, with their numbers.
+fn spoken<'a>(
+    alloc: Global,
+    lines: &[NumberedLine<'a>],
+) -> Result<Vec<NumberedLine<'a>>, AllocError> {
+    let mut spoken = Vec::new(alloc);
+    for asked in lines {
+        if !matches!(asked.line, Line::Silent) {
+            spoken.push(*asked)?;
+        }
+    }
+    Ok(spoken)
 }
 
 // Reads a file, or standard input.
@@ -100,6 +128,22 @@ fn put_counted<W: Output>(
     Ok(())
 }
 
+// Returns the errors of a source, as `check` prints them.
+fn errors_of(alloc: Global, name: &str, source: &[u8]) -> Result<Vec<u8>, RunFault> {
+    let refusals = refusals_of(alloc, source)?;
+    let mut lines = Vec::new(alloc);
+    put_refusals(
+        alloc,
+        name,
+        source,
+        refusals.as_slice(),
+        Long,
+        &mut ToWrite::new(&mut lines),
+    )
+    .map_err(|_| RunFault::Memory)?;
+    Ok(lines)
+}
+
 // Judges a solution, and prints what was found.
 fn examine<S: Shelf, D, C, R: Input, W: Output, E>(
     exam: &TestArgs,
@@ -124,10 +168,30 @@ fn examine<S: Shelf, D, C, R: Input, W: Output, E>(
         }
         Err(RunFault::Memory) => Err(RunFault::Memory),
         Err(fault) => {
+            let lines = errors_of(host.alloc, name, text.as_slice())?;
             let why = fault.text();
-            let found = Found::Refused(why.as_str().as_bytes());
+            let found = Found::Invalid(SourceErrors {
+                first: why.as_str().as_bytes(),
+                lines: lines.as_slice(),
+            });
             put_counted(exam, name, cases, &found, totals, &mut host.output)
         }
+    }
+}
+
+// Reports why a text is not a test file.
+fn report_want<S, D, C, R, W, E: Output>(
+    name: &str,
+    want: &[u8],
+    lines: &[NumberedLine],
+    texts: &[&[u8]],
+    host: &mut Host<S, D, C, R, W, E>,
+) {
+    if looks_like_source(host.alloc, name, want) {
+        let values = [Value::Text(name), Value::Text(name)];
+        report(Message::SourceAsTests, &values, &mut host.complaints);
+    } else {
+        report_unknown(host.alloc, name, lines, texts, &mut host.complaints);
     }
 }
 
@@ -141,16 +205,12 @@ fn test_by<S: Shelf, D, C, R: Input, W: Output, E: Output>(
 {
     let texts = cut(host.alloc, want)?;
     let lines = lines_of(host.alloc, texts.as_slice())?;
-    let unknown = report_unknown(
-        exam.want,
-        lines.as_slice(),
-        texts.as_slice(),
-        &mut host.complaints,
-    );
-    if unknown > 0 {
+    if is_any_unknown(lines.as_slice()) {
+        report_want(exam.want, want, lines.as_slice(), texts.as_slice(), host);
         return Ok(1);
     }
-    let cases = cases_of(host.alloc, lines.as_slice())?;
+    let spoken = spoken(host.alloc, lines.as_slice())?;
+    let cases = cases_of(host.alloc, spoken.as_slice())?;
     let mut totals = Totals::new();
     put_head(exam.format, &mut host.output)?;
     for name in exam.solutions {

@@ -2,7 +2,7 @@
 use Rattle.std.specs.Prelude.{◌≡◌, ◌≢◌, ◌⊎◌, ℕ, ◌≤◌, List, codes, length, Option, Some, None, MatchOption}
 use Rattle.std.specs.Option.{option_map}
 use Rattle.std.specs.Str.Parse.{IsNumeral, digits_value}
-use Rattle.a2_arguments.specs.Found.{Found, first_file, text_given}
+use Rattle.a2_arguments.specs.Found.{Found, first_file, is_given, text_given}
 use Rattle.a2_tty.specs.declared.cells.colours.Colours.{Colours}
 use Rattle.a2_play.specs.Paces.{apple}
 use Rattle.a2_play.specs.declared.pace.Pace.{Pace}
@@ -37,6 +37,7 @@ pub record ArePlayArgs (found : Found) (args : PlayArgs) : Type 0 where
   pub pace : IsPaceOf found args.pace
   pub colours : AreColoursOf found args.colours
   pub record_to : option_map (λ file. file.now) args.record_to ≡ text_given (codes "--record") found
+  pub speaker : args.speaker ≡ is_given (codes "--speaker") found
 
 -- no file that can be played, or no pace
 abbrev pub AskForNoSession : Found → Type 0

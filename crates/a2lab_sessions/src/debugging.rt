@@ -188,6 +188,14 @@ fn type_ahead<'a, E: Output>(
     Ok(())
 }
 
+// The error of a terminal in which panes cannot be drawn.
+fn without_panes<'a>(terminal: Option<Terminal>) -> Refusal<'a> {
+    match terminal {
+        Some(small) => Refusal::of_terminal(Message::SmallTerminalForPanes, small),
+        None => Refusal::new(Message::PanesWithoutTerminal),
+    }
+}
+
 // Answers the debugger lines of the input, over the run of a source.
 fn debug<'a, S: Shelf, D, C, R: Input, W: Output, E: Output>(
     source: &[u8],
@@ -202,7 +210,7 @@ fn debug<'a, S: Shelf, D, C, R: Input, W: Output, E: Output>(
     let columns = columns_of(given.terminal);
     let wall = wall_of(given.terminal, columns.as_ref());
     if asked.are_up && wall.is_none() {
-        return Err(Refusal::new(Message::SmallTerminalForPanes));
+        return Err(without_panes(given.terminal));
     }
     let lines = lines_in(given.seat.stdin, columns.as_ref(), wall.is_some());
     let assembled = assembled_text(alloc, order.file, source, &mut host.complaints)?;
@@ -215,7 +223,7 @@ fn debug<'a, S: Shelf, D, C, R: Input, W: Output, E: Output>(
         // A session was played with the guard, and has its keys.
         let options = given.arguments.options.as_slice();
         if let Some(other) = first_named(options, &[KEYS.name, KEYS_AT.name, FREE.name]) {
-            return Err(Refusal::of(Message::ReplayWithOption, other));
+            return Err(Refusal::of_two(Message::ReplayWithOption, other, other));
         }
         go_to_end(&mut inspector, name, host)?;
     }

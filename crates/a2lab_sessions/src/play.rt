@@ -9,14 +9,14 @@ ghost use Rattle.a2lab_sessions.specs.PlayWords.{ArePlayArgs, AreColoursOf, AskF
 
 use crate::turning::debug_here;
 use a2_arguments::Arguments;
-use a2_explain::report_stop;
 use a2_host::{Desk, Shelf};
 use a2_play::{Clock, Leave, Pace, Player, Session, TerminalSize, play, put_keys};
 use a2_run::{AssembledText, RunFault};
 use a2_stream::{Input, Output, WriteFault, put};
+use a2_symbols::report_stop;
 use a2_timed_keys::put_record;
 use a2_tty::Colours;
-use a2lab_commands::options::{COLOURS, PACE, RECORD};
+use a2lab_commands::options::{COLOURS, PACE, RECORD, SPEAKER};
 use a2lab_commands::{
     CommandArgs, Host, Message, Refusal, Terminal, Terminals, Value, assembled_text, colours_named,
     end_status, is_input, put_end_state, refuse_overwriting_input, report, settled, text_of,
@@ -43,6 +43,8 @@ pub struct PlayArgs<'a> {
     pub colours: Option<Colours>,
     /// The file to which the keys and their steps are written.
     pub record_to: Option<&'a str>,
+    /// Whether the moves of the speaker are reported.
+    pub speaker: bool,
 }
 
 // The cycles per second that a word spells.
@@ -123,6 +125,7 @@ pub fn play_args<'a>(arguments: &Arguments<'a>) -> Result<PlayArgs<'a>, Refusal<
         pace: pace_in(arguments)?,
         colours: colours_in(arguments),
         record_to: arguments.text(&RECORD),
+        speaker: arguments.has(&SPEAKER),
     })
 }
 
@@ -232,6 +235,9 @@ fn play_source<'a, S, D: Desk, C: Clock, R: Input, W: Output, E: Output>(
             columns: terminal.columns,
         },
     );
+    if order.speaker {
+        session.listen(host.alloc)?;
+    }
     let answer = played(source, &mut session, terminal, host);
     let kept = save_record(
         &session,
@@ -252,14 +258,8 @@ fn terminal_for<'a>(seat: Terminals, terminal: Option<Terminal>) -> Result<Termi
     let Some(terminal) = terminal else {
         return Err(Refusal::new(Message::PlayWithoutKeys));
     };
-    let (rows, columns) = (terminal.rows, terminal.columns);
-    if rows < LEAST_ROWS || columns < LEAST_COLUMNS {
-        let (columns, rows) = (u64::from(columns), u64::from(rows));
-        return Err(Refusal::Message(
-            Message::SmallTerminal,
-            Value::Number(columns),
-            Value::Number(rows),
-        ));
+    if terminal.rows < LEAST_ROWS || terminal.columns < LEAST_COLUMNS {
+        return Err(Refusal::of_terminal(Message::SmallTerminal, terminal));
     }
     Ok(terminal)
 }
