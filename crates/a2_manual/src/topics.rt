@@ -274,7 +274,8 @@ KEYIN finds no waiting key, or GETLN no RETURN among them.
      JSR $FD0C
 KEYIN, which RDKEY calls, has no key to take. GETLN stops in the same way if
 there is no RETURN among the keys, as JSR $FD6A with --keys HI. Give the keys,
-with \r at the end of each line: --keys 'HI\r'.
+with \r at the end of each line: --keys 'HI\r'. a2lab help keyboard says how a
+program reads keys.
 ~DECIMAL
 STOP DECIMAL
 ADC or SBC with the flag D set.
@@ -282,6 +283,12 @@ ADC or SBC with the flag D set.
      ADC #0
 Decimal arithmetic is not modelled. Leave out SED, or clear D with CLD before
 ADC and SBC. count.s counts in decimal without it.
+
+Decimal
+Decimal numbers are the usual ones. In a source they have no sign before them:
+LDA #65. $65 is another number, 101. The flag D, for decimal arithmetic, stops
+the run here: leave out SED.
+More: docs/manual/language.md
 ~ROM
 STOP ROM
 A byte of the instruction would be at or above $C000.
@@ -1058,9 +1065,19 @@ Removes a breakpoint, if there is one. Answer: nothing.
 ~TYPE
 Debugger: type K
 Types the keys K. Answer: nothing.
-~SCREEN
+~SCREEN,TEXT PAGE,TEXT PAGES
 Debugger: screen
 Answer: the picture.
+
+Screen, text page
+The screen has 24 rows of 40 characters. They are bytes of memory: row 0
+begins at $0400, row 1 at $0480. Print with COUT ($FDED), or store there.
+     LDA #"A"
+     STA $400    ; row 0, column 0
+     STA $427    ; row 0, column 39
+     RTS
+Row 0 begins with A.
+More: docs/manual/machine.md
 ~--KEYS
 --keys K: types the keys K, which all wait from the start; machine.md says how
 to spell them.
@@ -1073,4 +1090,462 @@ be overwritten.
 ~--ATTR
 --attr: prints after the picture how each character is shown: normal, inverse
 or flashing.
+~WANT
+WANT: the cases of a2lab test, in lines of these forms
+  case NAME: begins a case
+  keys K: these keys are waiting at the start, spelt as after --keys
+  limit N: the run has at most N steps, up to 100,000,000; without it
+    1,000,000
+  call NAME A=05 X=07 RESULT=00: the routine NAME runs instead of the program.
+    Before it, these registers A, X and Y and these places hold these bytes. A
+    place is a name, a name and a number such as RESULT+1, or $320. The case
+    fails if the routine does not return, unless a stop line names the cause
+  screen: the next lines that begin with a bar are the rows of the screen from
+    the top, and the rows after them are blank. Blanks at the end of a row do
+    not count. Rows that do not follow screen are ignored
+  screen row 0 = "TEXT": the row of this number, 0 to 23 from the top, is this
+    text. Blanks at its end do not count.
+  screen holds "TEXT": some row contains this text
+  mem $320 = A9 01: memory holds these bytes at the end, at an address or a
+    name of the source; + cannot follow here
+  reg A=E9 X=00: these registers of A, X, Y, P and S hold these bytes at the
+    end. A byte may also be written #233 or %11101001
+  stop RETURNED, stops RETURNED: the run stops with this cause
+  cycles <= N: the run takes at most N cycles; N is at most 100,000,000
+  bytes <= N: the source's statements have at most N bytes
+  must use BNE, must not use BNE: an instruction of the source has this
+    mnemonic, or none has it
+More: docs/manual/class.md
+~PROMISE,PROMISES,REQUIRES,ENSURES
+Promise: what a routine requires, ensures and changes
+    ;: requires $10 <= 100 and $11 <= 100
+    ;: ensures  A = old $10 + old $11
+    ;: changes  A
+    ADD     CLC
+            LDA $10
+            ADC $11
+            RTS
+  ;: requires: what must hold when the routine is entered; the caller sees to
+    it
+  ;: ensures: what holds when it has returned
+  ;: changes: what may be different afterwards: registers, bytes ($12, NAME)
+    and ranges of bytes ($30..$37), separated by commas. Everything else
+    stays: A, X and Y, and each byte of RAM. Flags may always change, and so
+    may the stack below the return address
+  ;: prints, ;: takes: what the routine prints, and which typed keys it takes
+More: docs/manual/promises.md
+~BYTE,BITS,BYTES
+Byte, bits
+A byte is a number from 0 to 255. It consists of eight bits, each 0 or 1. Bit
+0, at the right, counts 1, bit 1 counts 2, and so on up to bit 7, which counts
+128. All memory consists of bytes, and A, X and Y hold one byte each.
+     LDA #65     ; one byte: A9 41
+     RTS
+A is $41, because 65 is $41 in hexadecimal.
+More: docs/manual/language.md
+~HEXADECIMAL,HEX,$
+Hexadecimal, hex, $
+Hexadecimal digits count to 15: 0 to 9, then A (10) to F (15). The left one of
+two digits counts sixteens: $41 is 4 times 16 plus 1, so 65. $ says that a
+number is hexadecimal. Two digits are exactly one byte, from $00 to $FF (255),
+and four digits are an address.
+     LDA #$41    ; the same as LDA #65
+     RTS
+A is $41.
+More: docs/manual/language.md
+~BINARY,%
+Binary, %
+Binary digits are 0 and 1, the bits of a byte. % says that a number is binary:
+%101 is 4 + 0 + 1, so 5.
+     LDA #%101
+     RTS
+A is $05.
+More: docs/manual/language.md
+~NEGATIVE NUMBER,SIGNED NUMBER,NEGATIVE NUMBERS,SIGNED NUMBERS
+Negative number, signed number
+A byte from 128 to 255 can also mean a number below 0: take 256 from it. So
+$FF is -1, and $80 is -128. The byte is the same. Only your program decides
+what it means.
+     LDA #0
+     SEC
+     SBC #1      ; 0 - 1
+     RTS
+A is $FF, and N is set, because bit 7 is set.
+More: docs/manual/machine.md
+~WORD,HIGH BYTE,LOW BYTE,<,>,WORDS
+Word, high byte, low byte, <, >
+A word is two bytes, for numbers up to 65,535 such as addresses. The low byte
+comes first in memory. < gives the low byte of a number, and > its high byte.
+     LDA #<$1234 ; the low byte
+     LDX #>$1234 ; the high byte
+     RTS
+A is $34, and X is $12.
+More: docs/manual/language.md
+~ASCII,CHARACTER,CHARACTERS
+ASCII, character
+ASCII gives each character a number: A is $41, 0 is $30, the space is $20. In
+a source, 'A' is this number. "A" is the same with bit 7 set, $C1: the screen
+shows it as a normal character, and the keyboard gives it.
+     LDA #"A"
+     JSR $FDED   ; COUT prints it
+     RTS
+Row 0 is A.
+More: docs/manual/machine.md
+~TEXT,STRING,TEXTS,STRINGS
+Text, string
+A text is bytes in memory, one for each character. ASC stores them. A loop
+prints them, up to a 0 that you store after the last one.
+     LDX #0
+    L LDA T,X
+     BEQ E
+     JSR $FDED
+     INX
+     BNE L
+    E RTS
+    T ASC "HI"
+     DFB 0
+Row 0 is HI.
+More: docs/manual/language.md
+~INSTRUCTION,MNEMONIC,OPERATION,INSTRUCTIONS,MNEMONICS,OPERATIONS
+Instruction, mnemonic, operation
+A mnemonic is the name of what the processor does: LDA loads A. With its
+operand it is an instruction, which is one step of a run. a2lab help LDA
+explains a mnemonic.
+More: docs/manual/instructions.md
+~OPERAND,OPERANDS
+Operand
+The operand comes after the operation and says what it works on: a number
+after #, or the address of a byte. Some operations have none.
+     LDA #5      ; the number 5
+     STA $10     ; the byte at the address $10
+     TAX         ; no operand
+     RTS
+X is $05.
+More: docs/manual/language.md
+~LABEL,NAME,SYMBOL,LABELS,NAMES,SYMBOLS
+Label, name, symbol
+A label is a name in column 1. It means the address of its line, so you can
+jump there or load from there without counting bytes. A line without a label
+begins with a blank.
+     LDA VALUE
+     RTS
+    VALUE DFB 7
+A is $07.
+More: docs/manual/language.md
+~COMMENT,COMMENTS
+Comment
+Everything after ; is a comment. It is for people, and the assembler skips it.
+A line with * in column 1 is a comment too.
+    * This line is a comment.
+     LDA #1      ; and so is this text
+     RTS
+More: docs/manual/language.md
+~DIRECTIVE,DIRECTIVES
+Directive
+A directive is for the assembler, and is not an instruction: ORG sets the
+address, EQU gives a name a value, and DFB, DW, ASC and DS store bytes. a2lab
+help ORG explains one.
+    COUT EQU $FDED
+     ORG $300
+     LDA #"!"
+     JSR COUT
+     RTS
+Row 0 is !.
+More: docs/manual/language.md
+~REGISTER,REGISTERS
+Register
+The processor has three registers for your bytes: A for arithmetic, X and Y
+for counting and indexing. S is the stack pointer, PC is the address of the
+next instruction, and P has the flags. The line of registers at the end of a
+run shows all of them.
+More: docs/manual/machine.md
+~A,ACCUMULATOR
+A, accumulator
+A is the register for arithmetic: LDA loads it, ADC and SBC calculate with it,
+STA stores it. The operand A, as in ASL A, means the register itself.
+     LDA #2
+     ASL A       ; doubles A
+     CLC
+     ADC #3
+     RTS
+A is $07.
+More: docs/manual/instructions.md
+~X,Y,INDEX REGISTER,INDEX REGISTERS
+X, Y, index register
+X and Y are registers that count and that choose one byte of a table: T,X is
+the byte at the address T + X. Count with INX, DEX, INY, DEY.
+     LDX #2
+     LDA T,X
+     RTS
+    T DFB 10,20,30
+A is $1E, which is 30.
+More: docs/manual/instructions.md
+~PC,PROGRAM COUNTER
+PC, program counter
+PC is the address of the next instruction. A branch or a jump changes it.
+After a stop it says where the program stopped; FF69 is the normal end.
+More: docs/manual/machine.md
+~FLAG,P,STATUS,FLAGS
+Flag, P, status
+A flag is one bit that remembers something about a result: N (negative), V
+(overflow), Z (zero), C (carry), and D and I. P is the byte of all flags, with
+bits 5 and 4 always set. Branches test flags: BEQ branches if Z is set.
+     LDA #0      ; the result is 0, so Z is set
+     RTS
+P is $32.
+More: docs/manual/machine.md
+~C,CARRY
+C, carry
+The carry is the ninth bit of a sum: ADC adds C too, and sets C if the sum is
+above 255. So begin an addition with CLC and a subtraction with SEC. After a
+compare, C is set if the register was equal or greater.
+     CLC
+     LDA #$F0
+     ADC #$20    ; $110 is too much for a byte
+     RTS
+A is $10, and C is set.
+More: docs/manual/machine.md
+~Z,ZERO
+Z, zero
+The flag Z is set if the last result was 0, or if a compare found equal bytes.
+BEQ branches if Z is set, and BNE if it is clear.
+     LDX #1
+     DEX         ; X becomes 0
+     RTS
+X is $00, and Z is set.
+More: docs/manual/machine.md
+~N,NEGATIVE
+N, negative
+The flag N is a copy of bit 7 of the last result. BMI branches if N is set,
+and BPL if it is clear.
+     LDA #$80
+     RTS
+A is $80, and N is set.
+More: docs/manual/machine.md
+~V,OVERFLOW
+V, overflow
+The flag V is set if a sum or difference of signed numbers is below -128 or
+above 127. BVS branches if V is set, and BVC if it is clear.
+     CLC
+     LDA #100
+     ADC #100    ; 200 is above 127
+     RTS
+A is $C8, and V is set.
+More: docs/manual/machine.md
+~D,DECIMAL FLAG
+D, decimal flag
+SED sets the flag D, and CLD clears it. With D set, ADC and SBC calculate in
+decimal on a real processor. Here they stop the run with DECIMAL: leave out
+SED.
+More: docs/manual/stops.md
+~I,INTERRUPT,INTERRUPTS
+I, interrupt
+SEI sets the flag I, which keeps interrupts off, and CLI clears it. There are
+no interrupts here, so I has no effect.
+More: docs/manual/machine.md
+~COMPARE,COMPARISON
+Compare, comparison
+CMP compares A with a byte, CPX X, and CPY Y. It only sets flags, for the
+branch after it: BEQ equal, BNE not equal, BCC less, BCS equal or greater.
+     LDA #5
+     CMP #10
+     BCC LESS    ; 5 is less than 10
+     LDA #0
+    LESS RTS
+A is $05.
+More: docs/manual/instructions.md
+~BRANCH,IF,CONDITION,BRANCHES
+Branch, if, condition
+A branch continues at its label if a flag has the right value, and otherwise
+with the next line. This is the "if" of assembly language.
+     LDA #7
+     CMP #7
+     BNE DONE    ; skips the next line if A is not 7
+     LDA #1
+    DONE RTS
+A is $01.
+More: docs/manual/instructions.md
+~JUMP,GOTO,JUMPS
+Jump, goto
+JMP continues at its operand, always. It does not come back; JSR does.
+     JMP OVER
+     LDA #1      ; is skipped
+    OVER RTS
+A is $00.
+More: docs/manual/instructions.md
+~LOOP,LOOPS
+Loop
+A loop is a branch back to a label above it. Usually X or Y counts down, and
+BNE goes back until the count is 0.
+     LDX #3
+    L LDA #"*"
+     JSR $FDED
+     DEX
+     BNE L       ; again, until X is 0
+     RTS
+Row 0 is ***. A loop that never ends stops with LIMIT.
+More: docs/manual/language.md
+~SUBROUTINE,ROUTINE,FUNCTION,SUBROUTINES,ROUTINES,FUNCTIONS
+Subroutine, routine, function
+A subroutine is a part of the program that you call with JSR and that ends
+with RTS. Then the program continues after the JSR. Write it after the RTS
+that ends your program.
+     JSR STAR
+     JSR STAR
+     RTS         ; the end of the program
+    STAR LDA #"*"
+     JSR $FDED
+     RTS         ; back to the caller
+Row 0 is **.
+More: docs/manual/instructions.md
+~STACK,S,PUSH,PULL
+Stack, S, push, pull
+The stack keeps bytes for later: the last one that was pushed is the first one
+that is pulled. PHA pushes A, and PLA pulls it. JSR pushes where to come back,
+and RTS pulls it. So pull all that you pushed before RTS. The stack is at
+$0100 to $01FF, and S says where the next byte goes.
+     LDA #7
+     PHA         ; keeps 7
+     LDA #0
+     PLA         ; A is 7 again
+     RTS
+A is $07.
+More: docs/manual/instructions.md
+~CYCLE,CYCLES
+Cycle
+A cycle is the unit of the processor's time. A real Apple II makes about a
+million cycles a second. Each instruction takes 2 to 7.
+More: docs/manual/instructions.md
+~ADDRESSING MODE,MODE,ADDRESSING MODES,MODES
+Addressing mode, mode
+An addressing mode is how the operand says what is worked on:
+  #5: immediate; the number 5
+  $10: zero page; the byte at the address $10
+  $320: absolute; the byte at the address $320
+  T,X: indexed; the byte at T + X
+  ($10),Y: indirect; the byte at the address stored at $10, plus Y
+  a label, after a branch: relative; where to continue
+  nothing: implied; what the mnemonic names
+More: docs/manual/instructions.md
+~IMMEDIATE,#
+Immediate, #
+# means the number itself. Without #, the number is an address: LDA #5 loads
+5, but LDA 5 loads the byte at the address 5.
+     LDA #5
+     RTS
+A is $05.
+More: docs/manual/instructions.md
+~IMPLIED
+Implied
+An instruction without an operand: its name says what it works on. INX works
+on X, RTS on the stack.
+More: docs/manual/instructions.md
+~ZERO PAGE
+Zero page
+The zero page is the addresses $00 to $FF. An operand there needs one byte
+instead of two, so instructions are shorter and faster, and pointers must be
+there. $20 to $3F belong to the screen and the keyboard. $06 to $09 are free
+on a real Apple II too. Define names of the zero page above the lines that use
+them.
+    Z EQU $06
+     LDA #9
+     STA Z       ; 85 06
+     RTS
+A is $09.
+More: docs/manual/language.md
+~ABSOLUTE
+Absolute
+The operand is an address of two bytes, anywhere in memory.
+     LDA #9
+     STA $0320   ; 8D 20 03
+     RTS
+A is $09.
+More: docs/manual/instructions.md
+~INDEXED
+Indexed
+The register X or Y is added to the address. So one instruction in a loop can
+reach each byte of a table in turn.
+     LDY #1
+     LDA T,Y
+     RTS
+    T DFB 5,6,7
+A is $06.
+More: docs/manual/instructions.md
+~INDIRECT,POINTER,POINTERS
+Indirect, pointer
+A pointer is two bytes of the zero page that hold an address, low byte first.
+(P),Y is the byte at this address plus Y. JMP (V) continues at the address
+that is stored at V.
+    P EQU $06
+     LDA #<T
+     STA P
+     LDA #>T
+     STA P+1     ; P points to T
+     LDY #2
+     LDA (P),Y
+     RTS
+    T DFB 5,6,7
+A is $07.
+More: docs/manual/instructions.md
+~RELATIVE
+Relative
+Only branches have this mode. You write a label, and the assembler stores the
+distance to it in one byte. So the label must be near: at most 128 bytes
+before or 127 after the next instruction. A branch that is too far is the
+error E9.
+More: docs/manual/refusals.md
+~ADDRESS,MEMORY,RAM,ADDRESSES
+Address, memory, RAM
+Memory is a row of 65,536 bytes, and the number of a byte is its address,
+$0000 to $FFFF. Your program and its data are in RAM, below $C000. LDA reads a
+byte, and STA writes one.
+     LDA #7
+     STA $320
+     LDX $320
+     RTS
+X is $07.
+More: docs/manual/machine.md
+~PAGE,PAGES
+Page
+A page is 256 bytes whose addresses have the same high byte: page 3 is $0300
+to $03FF. Page 0 is the zero page, and page 1 is the stack. The screen is in
+pages 4 to 7, which together are text page 1.
+More: docs/manual/machine.md
+~SCREEN CODE,SCREEN CODES
+Screen code
+The byte on the screen decides what is shown: $80 to $FF normal, $40 to $7F
+flashing, $00 to $3F inverse. Six bits choose the character: A is $C1 normal,
+$41 flashing and $01 inverse. "A" in a source is the normal one. There are no
+small letters.
+More: docs/manual/machine.md
+~INVERSE,FLASHING,NORMAL
+Inverse, flashing, normal
+Inverse characters are black on white. Flashing ones change between that and
+normal. Call SETINV ($FE80) before you print, and SETNORM ($FE84) after it; or
+store the bytes yourself. --attr shows which are which.
+     JSR $FE80   ; SETINV
+     LDA #"A"
+     JSR $FDED
+     JMP $FE84   ; SETNORM, and the end
+Row 0 is A, and in memory it is $01.
+More: docs/manual/machine.md
+~KEYBOARD,KEY
+Keyboard, key
+$C000 gives the key, with bit 7 set while it waits. Any access of $C010 takes
+it. RDKEY ($FD0C) waits for a key and takes it. For a run, give the keys
+first, as in a2lab run --keys A f.s. With a2lab play f.s you type them while
+it runs.
+    W LDA $C000
+     BPL W       ; no key yet
+     STA $C010   ; takes it
+     JSR $FDED
+     RTS
+With ./a2 run f.s --keys A, row 0 is A.
+More: docs/manual/machine.md
+~SERVICE,MONITOR,SERVICES
+Service, Monitor
+A service is a subroutine that the machine already has, such as COUT ($FDED),
+which prints the character in A. The Monitor is the program in the ROM of an
+Apple II that has them. a2lab help COUT explains one.
+More: docs/manual/services.md
 "##;
