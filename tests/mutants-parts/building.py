@@ -1,6 +1,6 @@
 """Builds the program that has all wrong bodies, each with a switch.
 
-It is compiled as tests/unproved compiles programs, but it does not check its accesses to memory, so that it is fast enough for all cases.
+It is compiled as dist/compile compiles programs, but it does not check its accesses to memory, so that it is fast enough for all cases.
 """
 import hashlib
 import importlib.machinery
@@ -47,7 +47,7 @@ def make_module(copy, room):
     # (this clang only keeps the module, and does not compile it)
     shutil.copy(HERE / "keep-module", toolchain / "bin/clang")
     crate = next(it for it in rt.rtlib.crates_below(str(copy)) if it.name == "a2lab")
-    words = script(TOP / "tests/unproved").words_of(rt, crate, KIT / "c/libos_c.a")
+    words = script(TOP / "dist/compile").words_of(rt, crate, KIT / "c/libos_c.a")
     words[words.index("--toolchain") + 1] = toolchain
     how = {"stdin": subprocess.DEVNULL, "stderr": subprocess.PIPE, "env": {**os.environ, "TMPDIR": str(room)}}
     made = subprocess.run(words, cwd=crate.folder, text=True, errors="replace", check=False, **how)
