@@ -1,5 +1,6 @@
 // Checks the text while it is typed, and lists errors and warnings.
 import {byId, later, make, setText} from './dom.mjs';
+import {changeOf} from './fixes.mjs';
 import {Cancelled, Runner, faultText} from './programs.mjs';
 
 const PAUSE = 15, MOST_SHOWN = 100;
@@ -16,11 +17,8 @@ const PATIENCE = 300;
  * @property {string} text
  * @property {string} [code]
  * @property {string} [fix] What to do, in words.
- * @property {string} [replacement] What to write in place of the marked characters, if `check` knows it.
+ * @property {import('./fixes.mjs').Change} [change] What `Fix it` does, if these words are the new text.
  */
-
-// The words in which `check` proposes another name. (Its JSON has no field for it yet.)
-const PROPOSED = /^did you mean `?([\w.]+)`?\?$/;
 
 // Columns of `check` are bytes. Returns how many characters of a line these bytes are.
 function characters(line, bytes) {
@@ -29,9 +27,9 @@ function characters(line, bytes) {
 
 /** @returns {Problem[]} The errors in the JSON that `check` writes. */
 function errorsOf(json, lines) {
-  return JSON.parse(json).map(({line, column, width, code, text, fix, replacement}) => {
-    const it = lines[line - 1] ?? '', from = characters(it, column - 1);
-    return {kind: 'error', line, from, width: characters(it, column - 1 + width) - from, code, text, fix, replacement: replacement ?? PROPOSED.exec(fix)?.[1]};
+  return JSON.parse(json).map(({line, column, width: bytes, code, text, fix, replacement}) => {
+    const it = lines[line - 1] ?? '', from = characters(it, column - 1), width = characters(it, column - 1 + bytes) - from;
+    return {kind: 'error', line, from, width, code, text, fix, change: changeOf({line, from, width, fix, replacement}, lines)};
   });
 }
 
@@ -97,15 +95,15 @@ export class Checker {
   }
 
   #item(problem) {
-    const {kind, line, from, width, code, text, fix, replacement} = problem;
+    const {kind, line, from, width, code, text, fix, change} = problem;
     const place = line === 0 ? 'the whole text' : `line ${line}${kind === 'error' ? `, column ${from + 1}` : ''}`;
     const parts = [make('b', {}, place), ': ', text];
     const go = () => this.editor.select(Math.max(line, 1), from + 1, width);
     const item = make('li', {class: kind}, make('button', {type: 'button', class: 'goes', onclick: go}, ...parts));
     if (code) item.append(make('small', {title: `error ${code}`}, code));
     if (fix) item.append(make('p', {class: 'fix'}, fix));
-    if (typeof replacement === 'string') {
-      const apply = () => this.editor.replace(line, from + 1, width, replacement);
+    if (change) {
+      const apply = () => this.editor.replace(change.line, change.from + 1, change.width, change.text);
       item.append(make('button', {type: 'button', class: 'fixes', onclick: apply}, 'Fix it'));
     }
     return item;

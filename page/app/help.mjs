@@ -26,11 +26,13 @@ function wordUnder(editor, {clientX, clientY}) {
   return [...line.matchAll(WORD)].find(it => it.index <= column && column < it.index + it[0].length)?.[0];
 }
 
-// What is known of a word: the line of the source that defines it, and what `help` says. (Of other words `help` says nothing useful.)
+// What is known of a word: the line of the source that defines it, and what `help` says. (Of other words `help` says nothing useful. A name
+// of the source may be one of the manual's words by chance, such as LOOP or Z.)
 async function knownOf(word, lines, runner) {
   const at = lines.findIndex(it => it.match(/^[A-Za-z_.][\w.]*/)?.[0].toUpperCase() === word.toUpperCase());
-  const {status, stdout} = await runner.run(['a2lab', 'help', word], {});
-  return [formsOf(word), at < 0 ? '' : `line ${at + 1}: ${lines[at].trim()}`, status === 0 ? stdout.trimEnd() : ''].filter(Boolean).join('\n');
+  const {status, stdout} = await runner.run(['a2lab', 'help', word], {}), [title] = stdout.split('\n');
+  const isMeant = at < 0 || (word.length > 1 && title.includes(word.toUpperCase()));
+  return [formsOf(word), at < 0 ? '' : `line ${at + 1}: ${lines[at].trim()}`, status === 0 && isMeant ? stdout.trimEnd() : ''].filter(Boolean).join('\n');
 }
 
 // Explains the word on which the mouse rests.

@@ -2,6 +2,7 @@
 import {canWait} from '../host.mjs';
 import {byId, inNextFrame, later, setText} from './dom.mjs';
 import {LiveScreen} from './live-screen.mjs';
+import {LiveSound} from './live-sound.mjs';
 import {RECORD, faultText, filesOf, moduleOf, runOptions, startWorker, textsOf} from './programs.mjs';
 import {Terminal} from './terminal.mjs';
 
@@ -39,7 +40,7 @@ function keyBytes({key, ctrlKey, altKey, metaKey}) {
 }
 
 const KINDS = {
-  play: {rows: 24, columns: 80, frame: FRAME, words: pace => ['--pace', pace, '--record', RECORD]},
+  play: {rows: 24, columns: 80, frame: FRAME, words: pace => ['--pace', pace, '--speaker', '--record', RECORD]},
   debug: {rows: 40, columns: 100, words: () => ['--tui'], isRun: true},
   mon: {rows: 32, columns: 80, words: () => []},
 };
@@ -47,6 +48,8 @@ const KINDS = {
 export class Live {
   /** Is called with the record of the keys of a session of `play` that has ended. */
   recorded = () => {};
+  /** What the speaker does in a session of `play`. */
+  sound = new LiveSound();
   #worker = null;
   #kind = '';
   #terminal = null;
@@ -82,6 +85,7 @@ export class Live {
    */
   async begin(kind, record) {
     this.stop('');
+    if (kind === 'play') this.sound.begin();
     const {rows, columns, frame, words, isRun} = KINDS[kind], {name, text} = this.programOf(), pace = byId('pace').value;
     const given = record !== undefined ? runOptions({record}) : isRun ? runOptions(this.optionsOf()) : [], module = await moduleOf('a2lab');
     this.#open(kind, rows, columns);
@@ -113,6 +117,7 @@ export class Live {
     this.element.hidden = false;
     this.element.style.setProperty('--columns', columns);
     this.#terminal = new Terminal(byId('lines'), rows, columns);
+    this.#terminal.told = text => { if (kind === 'play') this.sound.take(text); };
     this.#screen = new LiveScreen(byId('live-screen'), byId('panel'), this.#terminal);
     this.#decoders = {1: new TextDecoder(), 2: new TextDecoder()};
   }
@@ -130,6 +135,7 @@ export class Live {
   /** Ends the session at once. */
   stop(why) {
     this.#worker?.terminate();
+    this.sound.silence();
     this.#ended(why);
   }
 

@@ -7,7 +7,7 @@ const MARK = '#learn=', FIRST = 'page', MOST_FOUND = 30;
 
 /** The pages in the order of the list, by groups. Others follow them. */
 const GROUPS = {
-  'Begin here': ['page', 'examples', 'language', 'card'],
+  'Begin here': ['page', 'basics', 'examples', 'language', 'card'],
   'The machine': ['instructions', 'machine', 'services', 'stops', 'refusals', 'real-machine'],
   'Tools': ['tools', 'check', 'looking-into-a-run', 'film', 'profile', 'class', 'promises', 'proving', 'fmt', 'old-texts'],
   'At a terminal': ['terminal', 'debugger', 'monitor', 'command-line', 'object-lines'],

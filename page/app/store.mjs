@@ -55,6 +55,15 @@ export function setCurrent(name) {
   attempt(it => it.setItem(CURRENT, name));
 }
 
+/** Whether the user turned a part of the page on. */
+export function isOn(name) {
+  return attempt(it => it.getItem(`a2.${name}`), null) === 'on';
+}
+
+export function setOn(name, isOn) {
+  attempt(it => it.setItem(`a2.${name}`, isOn ? 'on' : 'off'));
+}
+
 /** Calls a function with the name of a program that another tab has kept. */
 export function onOther(call) {
   addEventListener('storage', event => { if (event.key?.startsWith(PROGRAM)) call(event.key.slice(PROGRAM.length)); });

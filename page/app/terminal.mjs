@@ -1,7 +1,7 @@
-// A small terminal: it understands the sequences that the programs write, and draws the rows that changed.
+// A small terminal: it understands the sequences that the programs write, and draws the rows that changed. It draws no control strings.
 import {make, setText} from './dom.mjs';
 
-const SEQUENCE = /\x1b\[([?0-9;]*)([A-Za-z])|\x1b$|\x1b\[[?0-9;]*$|[^\x00-\x1f]+|[\s\S]/gu;
+const SEQUENCE = /\x1b\[([?0-9;]*)([A-Za-z])|\x1b\]([^\x1b]*)\x1b\\|\x1b$|\x1b\[[?0-9;]*$|\x1b\][^\x1b]*\x1b?$|[^\x00-\x1f]+|[\s\S]/gu;
 const PLAIN = Object.freeze({ink: '', paper: '', isBold: false, isInverse: false});
 const BASIC = ['#000000', '#cd3131', '#0dbc79', '#e5e510', '#2472c8', '#bc3fbc', '#11a8cd', '#e5e5e5'];
 const BRIGHT = ['#666666', '#f14c4c', '#23d18b', '#f5f543', '#3b8eea', '#d670d6', '#29b8db', '#ffffff'];
@@ -23,6 +23,8 @@ export class Terminal {
   /** Whether the cursor is shown. */
   hasCursor = true;
   #dirty = new Set();
+  /** Is called with each control string. */
+  told = () => {};
 
   /** @param {HTMLElement} element  @param {number} rows  @param {number} columns */
   constructor(element, rows, columns) {
@@ -38,8 +40,9 @@ export class Terminal {
     const whole = this.#rest + text;
     this.#rest = '';
     this.#dirty.add(this.#row);
-    for (const [piece, values, letter] of whole.matchAll(SEQUENCE)) {
+    for (const [piece, values, letter, string] of whole.matchAll(SEQUENCE)) {
       if (letter) this.#do(values, letter);
+      else if (string !== undefined) this.told(string);
       else if (piece[0] === '\x1b') this.#rest = piece;
       else if (piece < ' ') this.#control(piece);
       else for (const it of piece) this.#put(it);

@@ -4,6 +4,7 @@ import {inPage} from './in-page-of-app.mjs';
 
 const ECHO = 'L LDA $C000\n BPL L\n BIT $C010\n JSR $FDED\n JMP L\n';
 // A tone: 200 touches of the speaker.
+const BEEP = 'L LDA $C030\n LDY #96\nW DEY\n BNE W\n JMP L\n';
 const TONE = ' LDY #200\nL LDA $C030\n LDX #100\nW DEX\n BNE W\n DEY\n BNE L\n RTS\n';
 const WANT = 'stop RETURNED\ncase doubles\ncall DOUBLE A=15\nreg A=2A\ncase keeps X\ncall DOUBLE A=01 X=07\nreg A=02 X=07\n';
 const WRONG = 'START LDA #3\n JSR DOUBLE\n RTS\nDOUBLE ASL A\n TAX\n RTS\n';
@@ -131,6 +132,37 @@ export async function replays(value) {
   await test('keys that belong to another program give the message of the program', async () => {
     await value(inPage(`the.id('session').value = '5 41\\n900 END\\n'; the.type(' RTS\\n'); the.id('replay').click(); await the.until(() => parts.live.text.includes('recording of another source'), 'the message')`));
     await value(`the.id('tab-run').click()`);
+  });
+}
+
+// Takes down what the page plays. (A browser plays nothing without a user.)
+const LISTEN = `the.played = [];
+  window.AudioContext = class {
+    state = 'running';
+    sampleRate = 48000;
+    get currentTime() { return performance.now() / 1000; }
+    resume() {}
+    createGain() { return {connect() {}, disconnect() {}}; }
+    createBuffer() { return {copyToChannel(samples) { this.samples = samples; }}; }
+    createBufferSource() { return {connect() {}, stop() {}, start(at) { the.played.push({late: at * 1000 < performance.now(), at: Math.round(at * 48000), samples: this.buffer.samples}); }}; }
+  }`;
+
+export async function liveSounds(value) {
+  await test('a live session is silent until its sound is turned on, and again when it is turned off', async () => {
+    await value(inPage(`the.real = window.AudioContext; ${LISTEN}; parts.library.add({name: 'beep', text: ${JSON.stringify(BEEP)}}); the.id('tab-live').click(); the.id('play').click();
+      await the.until(() => parts.live.text.includes('running'), 'the session'); await the.sleep(300)`));
+    equal(await value(`[the.played.length, the.id('live-sound').getAttribute('aria-pressed'), localStorage.getItem('a2.sound')]`), [0, 'false', null]);
+    equal(await value(inPage(`the.id('live-sound').click(); await the.until(() => the.played.length > 20, 'the sound');
+      return [the.id('live-sound').getAttribute('aria-pressed'), localStorage.getItem('a2.sound'), parts.live.sound.made > 1000]`)), ['true', 'on', true]);
+    equal(await value(inPage(`the.id('live-sound').click(); const before = the.played.length; await the.sleep(300); return [the.played.length - before, localStorage.getItem('a2.sound')]`)), [0, 'off']);
+  });
+  await test('a beep is a tone, its reports are not drawn, and the choice is remembered', async () => {
+    const [rises, isLate, text] = await value(inPage(`the.id('live-sound').click(); the.played = []; the.id('play').click(); await the.until(() => the.played.length > 40, 'the sound');
+      const sound = new Float32Array(48000 * 20), from = the.played[0].at;
+      for (const {at, samples} of the.played.slice(0, 40)) sound.fill(0, at - from).set(samples.subarray(0, sound.length - at + from), at - from);
+      return [sound.filter((it, at) => at > 0 && it >= 0 && sound[at - 1] < 0).length, the.played.some(it => it.late), parts.live.text]`));
+    equal([rises > 100, isLate, /6502|;\d+ \d+/.test(text)], [true, false, false]);
+    await value(inPage(`the.id('end-live').click(); the.id('live-sound').click(); window.AudioContext = the.real; the.id('tab-run').click()`));
   });
 }
 

@@ -4,7 +4,7 @@ import fs from 'node:fs';
 import {fileURLToPath} from 'node:url';
 import {equal, test} from './count.mjs';
 import {inPage} from './in-page-of-app.mjs';
-import {exercises, learning, replays, sounds} from './app-learning.mjs';
+import {exercises, learning, liveSounds, replays, sounds} from './app-learning.mjs';
 
 const example = name => fs.readFileSync(fileURLToPath(new URL(`../../examples/${name}.s`, import.meta.url)), 'utf8');
 
@@ -72,6 +72,16 @@ async function programs(value, a2) {
     await value(inPage(`the.type('LOOP INX\\n BNE LOPO\\n RTS\\n'); await the.until(() => document.querySelector('#problems .fixes'), 'a fix');
       document.querySelector('#problems .fixes').click(); await the.until(() => the.text('count') === 'No errors', 'no error')`));
     equal(await value(`the.id('source').value`), 'LOOP INX\n BNE LOOP\n RTS\n');
+  });
+  await test('clicks write all fixes that are a new text', async () => {
+    await value(inPage(`the.type(' .ORG $300\\n LDX #0x05\\nL: DEX\\n LDA #"A"\\n CALL COUT\\n TXA\\n BNZ L\\n RTS\\n');
+      for (let clicks = 0; clicks < 9; ++clicks) {
+        await the.until(() => document.querySelector('#problems .fixes:not(:disabled)') || the.text('count') === 'No errors', 'a fix');
+        document.querySelector('#problems .fixes')?.click();
+        await the.sleep(300);
+      }
+      await the.until(() => the.text('count') === 'No errors', 'no error')`));
+    equal(await value(`the.id('source').value`), 'COUT    EQU $FDED\n ORG $300\n LDX #$05\nL DEX\n LDA #"A"\n JSR COUT\n TXA\n BNE L\n RTS\n');
   });
   await test('a program with errors does not run, and the page says why', async () => {
     await value(inPage(`the.type(' LDA\\n'); await the.ran()`));
@@ -351,6 +361,7 @@ export async function appTests(value, a2) {
   await sessions(value);
   await replays(value);
   await sounds(value);
+  await liveSounds(value);
   await exercises(value);
   await learning(value);
   await tools(value);

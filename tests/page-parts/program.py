@@ -17,7 +17,7 @@ from pathlib import Path
 HERE = Path(__file__).resolve().parent
 TOP = HERE.parents[1]
 # Why cases are left out, and the pattern in their commands.
-NOT_HERE = {"a limit of the shell": r"\b(ulimit|prlimit)\b", "a terminal": r"\bscript -|/dev/tty|\bstty\b"}
+NOT_HERE = {"a limit of the shell": r"\b(ulimit|prlimit)\b", "a terminal": r"\b(script -|at_terminal\b)|/dev/tty|\bstty\b"}
 
 # Has a case's shell write to the ends of its output files, as the server does, which opens them again.
 APPENDING = "exec >>/proc/self/fd/1 2>>/proc/self/fd/2\n"

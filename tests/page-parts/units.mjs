@@ -2,12 +2,14 @@
 import fs from 'node:fs';
 import {fileURLToPath} from 'node:url';
 import {casesIn, linesBefore} from '../../page/app/cases.mjs';
+import {changeOf} from '../../page/app/fixes.mjs';
 import {instructionsIn} from '../../page/app/instructions.mjs';
 import {MOST_LINK, fragmentOf, programIn} from '../../page/app/link.mjs';
 import {inlineOf, isProgram, textOf, treeOf} from '../../page/app/markdown.mjs';
 import {sizeOf} from '../../page/app/record.mjs';
-import {samplesOf} from '../../page/app/samples.mjs';
+import {Cone, samplesOf} from '../../page/app/samples.mjs';
 import {entriesOf} from '../../page/app/stack.mjs';
+import {Voice, reportIn} from '../../page/app/voice.mjs';
 import {Clock} from '../../page/host.mjs';
 import {inlined} from '../../page/inline.mjs';
 import {readerOf} from '../../page/reader.mjs';
@@ -83,6 +85,60 @@ await test('sound: a tone of 1,000 Hz has 1,000 waves a second, and silence is s
   equal([samples.length, Math.abs(rises - 1000) <= 2, Math.max(...samples) < 1], [44100, true, true]);
   equal(Math.max(...samplesOf([], 44100, 1).map(Math.abs)) < 1e-6, true);
 });
+// What is heard of reports, each a list of cycles and the second at which it comes.
+function heard(reports, pace, rate) {
+  const voice = new Voice(rate), sound = new Float32Array(5 * rate), starts = [];
+  for (const {cycles, now} of reports) {
+    const piece = voice.take({pace, cycles}, now);
+    if (!piece) continue;
+    starts.push(piece.start);
+    equal(piece.start >= now * rate, true);
+    for (const [at, samples] of [[piece.start, piece.samples], [piece.start + piece.samples.length, piece.tail]]) sound.fill(0, at).set(samples, at);
+  }
+  return {sound, starts};
+}
+// A speaker that moves each so many cycles for so many seconds, in reports that come so many seconds after their moves.
+function reportsOf(between, seconds, pace, delays) {
+  const reports = [];
+  let cycle = 0;
+  for (let at = 0; at * 0.034 < seconds; ++at) {
+    const cycles = [];
+    for (; cycle < (at + 1) * 0.034 * pace; cycle += between) cycles.push(Math.round(cycle));
+    reports.push({cycles, now: 1 + (at + 1) * 0.034 + delays(at)});
+  }
+  return reports;
+}
+// How often the sound jumps, within one or two samples, as it does when the speaker moves; otherwise the cone only goes back slowly.
+function jumps(sound) {
+  const jumpsAt = at => Math.abs(sound[at] - sound[at - 1]) > 0.002;
+  return sound.filter((_, at) => jumpsAt(at) && !jumpsAt(at - 1)).length;
+}
+
+await test('sound: the report of a live session is read, and other strings are not', () => {
+  equal(['6502;1022727;5 9 4000000000', '6502;1000;7', '6502;1;', '0;title', '6502;1;2 x', ''].map(reportIn),
+    [{pace: 1022727, cycles: [5, 9, 4000000000]}, {pace: 1000, cycles: [7]}, null, null, null, null]);
+});
+await test('sound: a live beep of 1,000 Hz is a steady tone, whenever its reports come', () => {
+  const pace = 1022727, reports = reportsOf(pace / 2000, 3, pace, at => 0.04 * Math.abs(Math.sin(at))), {sound, starts} = heard(reports, pace, 48000);
+  const all = reports.flatMap(it => it.cycles), origin = (reports[0].now + 0.1) * 48000 - reports[0].cycles.at(-1) * 48000 / pace;
+  const wanted = new Cone(48000).samples(all.map(it => origin + it * 48000 / pace), starts[0], 3 * 48000);
+  equal(wanted.every((it, at) => Math.abs(it - sound[starts[0] + at]) < 1e-6), true);
+  equal([starts.length, sound.subarray(0, starts[0]).every(it => it === 0), sound.subarray(-100).every(it => it === 0)], [reports.length, true, true]);
+});
+await test('sound: each move is heard once, also after a wait, a late report, a step back and another pace', () => {
+  const click = (cycle, now) => ({cycles: [cycle], now});
+  for (const reports of [[click(1000, 1), click(1001, 3)], [click(90000, 1), click(100, 1.05), click(2000, 1.1)], [click(0, 1), click(30000, 1.3), click(60000, 1.31)]]) {
+    equal(jumps(heard(reports, 1022727, 44100).sound), reports.length);
+  }
+  const late = reportsOf(5000, 1, 1022727, at => at === 9 ? 0.2 : at === 10 ? 0.17 : 0), {sound} = heard(late, 1022727, 44100);
+  equal(jumps(sound), late.flatMap(it => it.cycles).length);
+  const voice = new Voice(44100), pieces = [voice.take({pace: 1022727, cycles: [5000]}, 1), voice.take({pace: 2045454, cycles: [9000, 9500]}, 1.03)];
+  equal(pieces[1].start, pieces[0].start + pieces[0].samples.length);
+});
+await test('sound: reports that come much too soon are left out until there is time for them', () => {
+  const voice = new Voice(44100), taken = Array.from({length: 30}, (_, at) => voice.take({pace: 1022727, cycles: [at * 34000, at * 34000 + 17000]}, 1 + at / 1000));
+  equal([taken[0] !== null, taken.includes(null), voice.take({pace: 1022727, cycles: [2000000]}, 2) !== null], [true, true, true]);
+});
 await test('the clock of a session goes ahead at a key, never further, and then is right again', async () => {
   const clock = new Clock(), isRight = () => { const [before, now, after] = [performance.now(), clock.now, performance.now()]; return before <= now && now <= after; };
   equal(isRight(), true);
@@ -101,5 +157,22 @@ await test('links hold a program with all that belongs to it', async () => {
 });
 await test('the reader of films and the script of the page are scripts', () => {
   for (const it of [readerOf(at('../../crates/a2_film/src/viewer.rt')), inlined(at('../../page/app/main.mjs'))]) new Function(it);
+});
+await test('a fix is written if its words are a new text', () => {
+  // The line, the marked characters, the fix, and the line after it.
+  const fixed = [
+    [' BNE LOPO ; back', 5, 4, 'did you mean LOOP?', ' BNE LOOP ; back'],
+    ['L1 BGE DONE  ; "x;y"', 3, 3, 'write  BCS DONE', 'L1 BCS DONE  ; "x;y"'],
+    [' .TEXT "A;B" ; two', 1, 5, 'write  ASC "A;B"', ' ASC "A;B" ; two'],
+    [' LDA #0x4F', 6, 4, 'write $4F', ' LDA #$4F'],
+    ['DONE: RTS', 0, 5, 'write DONE', 'DONE RTS'],
+    ['COUT = $FDED ; prints', 5, 1, 'write COUT EQU $FDED', 'COUT EQU $FDED ; prints'],
+    [' STA [$10],Y', 5, 1, 'use ( and )', ' STA ($10),Y'],
+    [' LDA /COUT', 5, 1, 'use > instead', ' LDA >COUT'],
+  ];
+  equal(fixed.map(([line, from, width, fix]) => { const {text, ...it} = changeOf({line: 1, from, width, fix}, [line]); return line.slice(0, it.from) + text + line.slice(it.from + it.width); }), fixed.map(it => it[4]));
+  equal(changeOf({line: 3, from: 5, width: 4, fix: 'add the line COUT EQU $FDED'}, ['', '', ' JSR COUT']), {line: 1, from: 0, width: 0, text: 'COUT    EQU $FDED\n'});
+  const words = ['write  CLC, then in the next line  ADC #5', 'write  RTS to end the program, or  BRK', 'write  PHA, which pushes A', 'use another name, such as ACC', 'write one character, as in #"A"'];
+  equal(words.map(fix => changeOf({line: 1, from: 1, width: 3, fix}, [' ADD #5'])), words.map(() => undefined));
 });
 finish();
