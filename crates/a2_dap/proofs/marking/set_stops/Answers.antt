@@ -1,0 +1,5 @@
+use Rattle.a2_dap.proofs.Reaching.{joined, done}
+use Rattle.a2_dap.proofs.marking.set_stops.Goals as goal
+
+pub returns : goal.returns
+returns c = joined _ _ _ (joined _ _ _ (done _ _ _ c.execute_command.ensures) c.set_breaks.ensures) c.set_watches.ensures

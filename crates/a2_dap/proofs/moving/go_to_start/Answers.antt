@@ -1,0 +1,5 @@
+use Rattle.a2_dap.proofs.Reaching.{begun}
+use Rattle.a2_dap.proofs.moving.go_to_start.Goals as goal
+
+pub returns : goal.returns
+returns c = begun _ _ c.go_to_start.ensures

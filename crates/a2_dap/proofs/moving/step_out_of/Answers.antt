@@ -1,0 +1,5 @@
+use Rattle.a2_dap.proofs.Reaching.{joined, done}
+use Rattle.a2_dap.proofs.moving.step_out_of.Goals as goal
+
+pub returns : goal.returns
+returns c = joined _ _ _ (done _ _ _ c.execute_command-outcome.ensures) c.leave.ensures

@@ -1,0 +1,5 @@
+use Rattle.a2_dap.proofs.Reaching.{joined, same}
+use Rattle.a2_dap.proofs.session.Session.set.Goals as goal
+
+pub returns : goal.returns
+returns c = joined _ _ _ (same _ _ c.note_stops-answer.ensures) c.apply_stops.ensures
