@@ -1,0 +1,3 @@
+pub mod Larger
+pub mod Plain
+pub mod Places
