@@ -1,0 +1,3 @@
+pub mod Sectors
+pub mod Contents
+pub mod Catalog

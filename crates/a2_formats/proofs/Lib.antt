@@ -1,0 +1,4 @@
+pub mod ReadingLaws
+pub mod SameLaws
+pub mod AppleLaws
+pub mod LayingLaws
