@@ -1,0 +1,5 @@
+pub mod Checksums
+pub mod Colours
+pub mod Dots
+pub mod Png
+pub mod Shapes
