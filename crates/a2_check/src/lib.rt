@@ -4,6 +4,7 @@
 //! CALLING.md shows how to call it.
 #![tactic(auto)]
 
+mod beside;
 mod checked;
 mod elsewhere;
 mod finding;

@@ -256,7 +256,7 @@ impl Mistake {
             Mistake::TextAfterText => b"put it in the next line, as in  ASC @",
             Mistake::BytesAfterText => b"put it in the next line, as in  DFB @",
             Mistake::Sign =>
-                b"write <0@ for a byte; for a word write its value, such as $FFFF for -1",
+                b"write <0@ for a byte, which is $FF for -1; for a word write its value, such as $FFFF for -1",
             Mistake::SignOfBranch =>
                 b"write a label, or * and a distance from this line, as in *+4",
             Mistake::Hexadecimal => b"write $@",

@@ -350,15 +350,20 @@ pub(crate) fn is_accumulator(word: &[u8]) -> bool {
     word.eq_ignore_ascii_case(b"A")
 }
 
-/// Returns the index of the first occurrence of a word in an operand, or 0 if it does not occur.
-pub(crate) fn word_at(operand: &[u8], name: &[u8]) -> usize {
-    let mut rest = operand;
+/// Returns the index of the first occurrence of a word in a text, or `None` if it does not occur.
+pub(crate) fn word_in(text: &[u8], name: &[u8]) -> Option<usize> {
+    let mut rest = text;
     while !rest.is_empty() {
         let (word, others) = rest.split_at(word_len(rest));
         if word == name {
-            return operand.len().saturating_sub(rest.len());
+            return Some(text.len().saturating_sub(rest.len()));
         }
         rest = others;
     }
-    0
+    None
+}
+
+/// Returns the index of the first occurrence of a word in an operand, or 0 if it does not occur.
+pub(crate) fn word_at(operand: &[u8], name: &[u8]) -> usize {
+    word_in(operand, name).unwrap_or(0)
 }

@@ -8,8 +8,11 @@ use std::alloc::{AllocError, Allocator};
 // A name that a source is unlikely to contain.
 const HERE: &[u8] = b"_HERE_IN_A_SOURCE_THAT_IS_TRIED_";
 
-// Appends a line made of these pieces.
-fn append_line<A: Allocator>(text: &mut Vec<u8, A>, pieces: &[&[u8]]) -> Result<(), AllocError> {
+/// Appends a line made of these pieces.
+pub(crate) fn append_line<A: Allocator>(
+    text: &mut Vec<u8, A>,
+    pieces: &[&[u8]],
+) -> Result<(), AllocError> {
     for piece in pieces {
         text.extend_from_slice(piece)?;
     }

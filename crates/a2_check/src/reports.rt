@@ -1,5 +1,6 @@
 //! Writes the messages for errors.
 
+use crate::beside::{with_others, without_unread};
 use crate::checked::{Checked, line_at};
 use crate::forms::put_forms;
 use crate::message::{FilledSentence, Message, shown};
@@ -47,6 +48,13 @@ impl From<WriteFault> for ReportFault {
     fn from(_fault: WriteFault) -> ReportFault {
         ReportFault::Write
     }
+}
+
+// A source and its name.
+#[derive(Clone, Copy)]
+struct Named<'a> {
+    name: &'a str,
+    source: &'a [u8],
 }
 
 // Returns the code of an error, as users see it.
@@ -278,21 +286,23 @@ fn put_each<A: Allocator + Copy, W: Output>(
     Ok(put_end(format, refusals.len(), writer)?)
 }
 
-// Writes the messages for errors of a source with these lines. If a line is not in the grammar, `lines` is empty.
+// Writes the messages for errors of a source with these lines. `read` is the text of `lines`: the source, or the source with empty lines
+// in place of those that are not in the grammar.
 fn put_of_lines<'a, A: Allocator + Copy, W: Output>(
     alloc: A,
-    name: &'a str,
-    source: &'a [u8],
+    named: Named<'a>,
+    read: &[u8],
     lines: &'a [Line<A>],
     refusals: &[Fault],
     format: Format,
     writer: &mut W,
 ) -> Result<(), ReportFault> {
-    let texts = cut(alloc, source)?;
-    let values = with_values(alloc, texts.as_slice(), lines, refusals)?;
+    let texts = cut(alloc, named.source)?;
+    let read = cut(alloc, read)?;
+    let values = with_values(alloc, read.as_slice(), lines, refusals)?;
     let checked = Checked {
-        name,
-        source,
+        name: named.name,
+        source: named.source,
         texts: texts.as_slice(),
         lines,
         values: values.as_ref(),
@@ -300,8 +310,41 @@ fn put_of_lines<'a, A: Allocator + Copy, W: Output>(
     put_each(alloc, &checked, refusals, format, writer)
 }
 
+// Writes the messages for the errors of a source that has lines that are not in the grammar, and for those of its other lines that no fix
+// of these can change. If the source is too large, there is no other error.
+fn put_of_text<A: Allocator + Copy, W: Output>(
+    alloc: A,
+    named: Named<'_>,
+    refusals: &[Fault],
+    format: Format,
+    writer: &mut W,
+) -> Result<(), ReportFault> {
+    let texts = cut(alloc, named.source)?;
+    let read = without_unread(alloc, texts.as_slice(), refusals)?;
+    let read = read.as_slice();
+    match parse(alloc, read) {
+        Ok(parsed) => {
+            let all = with_others(alloc, texts.as_slice(), &parsed, refusals)?;
+            put_of_lines(
+                alloc,
+                named,
+                read,
+                parsed.lines(),
+                all.as_slice(),
+                format,
+                writer,
+            )
+        }
+        Err(fault) => {
+            refused(fault)?;
+            put_of_lines(alloc, named, read, &[], refusals, format, writer)
+        }
+    }
+}
+
 /// Writes the message for each of these errors of `source`, which is called `name`, in this format: its place, what is wrong
-/// and how to fix it. Fails if a write fails, or if there is not enough memory. This project's profile.
+/// and how to fix it. After errors of lines that are not in the grammar come those of other lines that no fix of these lines can change.
+/// Fails if a write fails, or if there is not enough memory. This project's profile.
 pub fn put_refusals<A: Allocator + Copy, W: Output>(
     alloc: A,
     name: &str,
@@ -313,11 +356,12 @@ pub fn put_refusals<A: Allocator + Copy, W: Output>(
     if refusals.is_empty() {
         return Ok(put_end(format, 0, writer)?);
     }
+    let named = Named { name, source };
     match parse(alloc, source) {
         Ok(parsed) => {
             put_of_lines(
                 alloc,
-                name,
+                named,
                 source,
                 parsed.lines(),
                 refusals,
@@ -327,7 +371,7 @@ pub fn put_refusals<A: Allocator + Copy, W: Output>(
         }
         Err(fault) => {
             refused(fault)?;
-            put_of_lines(alloc, name, source, &[], refusals, format, writer)
+            put_of_text(alloc, named, refusals, format, writer)
         }
     }
 }

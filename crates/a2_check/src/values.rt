@@ -66,3 +66,22 @@ pub(crate) fn has_name<A: Allocator>(body: &Body<A>) -> bool {
         _ => false,
     }
 }
+
+// Returns the name of an expression that is a single name, or `None`.
+fn name_of<A: Allocator>(e: &Expr<A>) -> Option<&[u8]> {
+    match (e.part, e.terms.get()) {
+        (Part::Whole, [signed]) if !signed.minus => match &signed.term {
+            Term::Named(name) => Some(name.get().as_bytes()),
+            _ => None,
+        },
+        _ => None,
+    }
+}
+
+/// Returns the name that is the whole operand of an instruction, or `None`.
+pub(crate) fn single_name<A: Allocator>(body: &Body<A>) -> Option<&[u8]> {
+    match body {
+        Body::Instr(_, operand) => name_of(operand.expr()?),
+        _ => None,
+    }
+}

@@ -9,7 +9,7 @@ mod stores;
 use crate::warnings::flow::{is_unreached, unset_carry};
 use crate::warnings::lines::{is_decimal_address, operation_in_label, sets_no_place, unwritten};
 use crate::warnings::statements::{
-    Begins, kind_of, runs_out_after_service, shows_plain, stores_in_rom,
+    Begins, is_astray, kind_of, runs_out_after_service, shows_plain, stores_in_rom,
 };
 use crate::warnings::stores::LowStores;
 use a2_asm::{Program, Statement};
@@ -40,6 +40,8 @@ pub enum WarningKind {
     Carry,
     /// An instruction stores in ROM.
     Rom,
+    /// A branch goes to an address where no instruction begins.
+    Astray,
 }
 
 /// A line that may not do what its author meant, and why.
@@ -122,6 +124,9 @@ fn kind_of_statement<A: Allocator>(
     }
     if runs_out_after_service(begins, statement) {
         return Some(WarningKind::RunsOut);
+    }
+    if is_astray(begins, statement) {
+        return Some(WarningKind::Astray);
     }
     stores_in_rom(statement).then_some(WarningKind::Rom)
 }

@@ -1,6 +1,6 @@
 -- What a run leaves unchanged between marked addresses.
 use Rattle.std.specs.Prelude.{IsTrue, ◌≢◌, not, is_some, length, take, get_or, slice_set, Contains, ◌||◌, ◌&&◌, ◌==◌, nat_le, nat_lt, if◌then◌else◌}
-use Rattle.std.specs.List.{list_any}
+use Rattle.std.specs.List.{list_any, list_all}
 use Rattle.std.proofs.Common.{◌≡◌, ◌⊎◌, inl, inr, ℕ, zero, suc, ◌+◌, ◌-◌, ◌<◌, ◌≤◌, Bool, true, false, true≢false, List, [], ◌∷◌, Option, Some, None, Result, Ok, Err, refl, sym, ap, ap₂, subst, ◌∙◌, arith}
 use Rattle.std.proofs.lemmas.Bool.{ne_eqb}
 use Rattle.std.proofs.lemmas.Bool.Decides.{nat_tests}
@@ -41,10 +41,12 @@ use Rattle.a2_history.specs.declared.Typed.{Typed}
 use Rattle.a2_history.specs.Courses.{Course, typed, with_keys, with_logged, arrived, world_on, NoneStuck}
 use Rattle.a2_history.specs.Going.{Track, here, AlarmsAreComplete}
 use Rattle.a2_symbols.specs.declared.places.Span.{Span}
+use Rattle.a2_debugger.specs.declared.stops.Watch.{Watch}
+use Rattle.a2_debugger.specs.declared.stops.Watch.TheVariants.{OfRegister, OfFlag, OfBytes}
 use Rattle.a2_debugger.specs.declared.stops.Break.{Break}
 use Rattle.a2_debugger.specs.Inspections.{is_at, is_left}
-use Rattle.a2_debugger.specs.Stops.{Moment, moment_of, holds, is_hit, bytes_differ, is_changed_from, is_span_changed, is_changed_in, is_stop}
-use Rattle.a2_debugger.specs.Alerts.{Alerts, is_marked, is_watched, place_in, IsCalmStatement, IsCalm, MarksAllBut, AreAlerts, alarms, WarnsOfStops}
+use Rattle.a2_debugger.specs.Stops.{Moment, moment_of, holds, is_hit, bytes_differ, is_changed_from, is_span_changed, is_watch_changed, in_register, in_flag, is_changed_in, is_stop}
+use Rattle.a2_debugger.specs.Alerts.{Alerts, is_marked, is_in, is_watched, is_of_bytes, place_in, IsCalmStatement, IsCalm, MarksAllBut, AreAlerts, alarms, WarnsOfStops}
 
 or-true : (b : Bool) → (b || true) ≡ true
 or-true true = refl
@@ -60,7 +62,7 @@ any-at p (x ∷ xs) zero d low is = ap (λ v. v || list_any p xs) is
 any-at p (x ∷ xs) (suc i) d low is = ap (λ v. p x || v) (any-at p xs i d (omega (arith, low)) is) ∙ or-true (p x)
 
 -- a calm statement makes its address calm
-pub calm-at : (watches : List Span) (statements : List Statement) (memory : Memory) (i : ℕ) (d : Statement)
+pub calm-at : (watches : List Watch) (statements : List Statement) (memory : Memory) (i : ℕ) (d : Statement)
     → i < length statements → IsCalmStatement watches memory (get_or statements i d) → IsCalm watches statements memory (get_or statements i d).addr
 calm-at watches statements memory i d low calm =
     (get_or statements i d, (i, low, get_or_default statements i (get_or statements i d) d low), refl, calm)
@@ -77,7 +79,7 @@ code-held statements s a among some held =
 same-or-not : (a b : ℕ) → (a ≡ b) ⊎ (a ≢ b)
 same-or-not a b = grind arith
 
-pub cleared : (watches : List Span) (memory : Memory) (marks : List Bool) (s : Statement) (at : ℕ) → at ≡ s.addr
+pub cleared : (watches : List Watch) (memory : Memory) (marks : List Bool) (s : Statement) (at : ℕ) → at ≡ s.addr
     → IsCalmStatement watches memory s → (a : ℕ) → is_marked (slice_set marks at false) a ≡ false
     → (is_marked marks a ≡ false) ⊎ ((s.addr ≡ a) × IsCalmStatement watches memory s)
 cleared watches memory marks s at here calm a unmarked = go (same-or-not a at)
@@ -86,7 +88,7 @@ cleared watches memory marks s at here calm a unmarked = go (same-or-not a at)
     go (inl e) = inr (sym (e ∙ here), calm)
     go (inr ne) = inl (sym (get_or-set_other marks at a false true ne) ∙ unmarked)
 
-pub calm-more : (watches : List Span) (statements : List Statement) (memory : Memory) (old new : List Bool)
+pub calm-more : (watches : List Watch) (statements : List Statement) (memory : Memory) (old new : List Bool)
     (i : ℕ) (d : Statement) → i < length statements → MarksAllBut watches statements memory old
     → ((a : ℕ) → is_marked new a ≡ false
     → (is_marked old a ≡ false) ⊎ (((get_or statements i d).addr ≡ a) × IsCalmStatement watches memory (get_or statements i d)))
@@ -217,9 +219,14 @@ unchanged-from first (suc n) ram = ap₂ (λ x y. x || y) (unchanged-from first 
     same None = refl
     same (Some byte) = ap not (same-number byte)
 
-unchanged : (watches : List Span) (ram : ℕ → Option ℕ) → list_any (is_span_changed ram ram) watches ≡ false
-unchanged [] ram = refl
-unchanged (s ∷ ss) ram = ap₂ (λ x y. x || y) (unchanged-from s.first (s.last + 1 - s.first) ram) (unchanged ss ram)
+watch-unchanged : (watch : Watch) (moment : Moment) → is_watch_changed moment moment watch ≡ false
+watch-unchanged (OfRegister register) moment = ap not (same-number (in_register register moment))
+watch-unchanged (OfFlag flag) moment = ap not (same-number (in_flag flag moment))
+watch-unchanged (OfBytes s) moment = unchanged-from s.first (s.last + 1 - s.first) moment.ram
+
+unchanged : (watches : List Watch) (moment : Moment) → list_any (is_watch_changed moment moment) watches ≡ false
+unchanged [] moment = refl
+unchanged (w ∷ ws) moment = ap₂ (λ x y. x || y) (watch-unchanged w moment) (unchanged ws moment)
 
 -- if a conjunction fails and one side holds, the other side fails
 and-false : (u v : Bool) → (u && v) ≡ false → v ≡ true → u ≡ false
@@ -228,6 +235,10 @@ and-false u v e is = sym (right u v is) ∙ e
     right : (u v : Bool) → v ≡ true → (u && v) ≡ u
     right true v is = is
     right false v is = refl
+
+and-true : (u v : Bool) → (u && v) ≡ true → (u ≡ true) × (v ≡ true)
+and-true true v e = (refl, e)
+and-true false v e = absurd (true≢false (sym e))
 
 or-false : (u v : Bool) → (u || v) ≡ false → (u ≡ false) × (v ≡ false)
 or-false false v e = (refl, e)
@@ -249,24 +260,32 @@ span-same first (suc n) before one other same =
     ap₂ (λ x y. x || y) (span-same first n before one other (λ k l. same k (omega (arith, l))))
     (ap (λ o. bytes_differ o (before (first + n))) (same n (omega arith)))
 
-watched-same : (watches : List Span) (before one other : ℕ → Option ℕ) → ((a : ℕ) → is_watched watches a ≡ true → one a ≡ other a)
-    → list_any (is_span_changed before one) watches ≡ list_any (is_span_changed before other) watches
-watched-same [] before one other same = refl
-watched-same (s ∷ ss) before one other same =
-    ap₂ (λ x y. x || y)
-    (span-same s.first (s.last + 1 - s.first) before one other
-    (λ k l. same (s.first + k) (ap (λ v. v || is_watched ss (s.first + k)) (inside s.first s.last k l))))
-    (watched-same ss before one other
-    (λ a is. same a (ap (λ v. (nat_le s.first a && nat_le a s.last) || v) is ∙ or-true (nat_le s.first a && nat_le a s.last))))
+-- if a watch is of bytes, whether they have changed depends only on them
+watch-same : (watch : Watch) (before one other : Moment) → is_of_bytes watch ≡ true → ((a : ℕ) → is_in watch a ≡ true → one.ram a ≡ other.ram a)
+    → is_watch_changed before one watch ≡ is_watch_changed before other watch
+watch-same (OfRegister register) before one other bytes same = absurd (true≢false (sym bytes))
+watch-same (OfFlag flag) before one other bytes same = absurd (true≢false (sym bytes))
+watch-same (OfBytes s) before one other bytes same =
+    span-same s.first (s.last + 1 - s.first) before.ram one.ram other.ram (λ k l. same (s.first + k) (inside s.first s.last k l))
   where
     inside : (first last k : ℕ) → k < last + 1 - first → (nat_le first (first + k) && nat_le (first + k) last) ≡ true
     inside first last k l = grind (arith, nat_tests, l)
+
+watched-same : (watches : List Watch) (before one other : Moment) → list_all is_of_bytes watches ≡ true
+    → ((a : ℕ) → is_watched watches a ≡ true → one.ram a ≡ other.ram a)
+    → list_any (is_watch_changed before one) watches ≡ list_any (is_watch_changed before other) watches
+watched-same [] before one other bytes same = refl
+watched-same (w ∷ ws) before one other bytes same =
+    let parts = and-true (is_of_bytes w) (list_all is_of_bytes ws) bytes in
+    ap₂ (λ x y. x || y)
+    (watch-same w before one other parts.0 (λ a is. same a (ap (λ v. v || is_watched ws a) is)))
+    (watched-same ws before one other parts.1 (λ a is. same a (ap (λ v. is_in w a || v) is ∙ or-true (is_in w a))))
 
 same-peek : (v w : World) (a : ℕ) → ram_byte v.memory a ≡ ram_byte w.memory a → peek v.memory a ≡ peek w.memory a
 same-peek v w a e = ap (λ (b : ℕ). if nat_lt a ram_end then Some b else None) e
 
 -- a run that continues from a position, with its breakpoints, the watched spans, and the addresses marked for them
-module _ (free : Bool) (program : Assembled) (course : Course) (from : ℕ) (breaks : List Break) (watches : List Span) (alerts : Alerts)
+module _ (free : Bool) (program : Assembled) (course : Course) (from : ℕ) (breaks : List Break) (watches : List Watch) (alerts : Alerts)
     (guarded : course.origin.guard ≡ guard_of_run free program)
     (are : AreAlerts free program.statements (world_on course from).memory breaks watches alerts) where
   code-is : free ≡ false → code_of course.origin ≡ bytes (Some (guard_of_program program))
@@ -328,17 +347,17 @@ module _ (free : Bool) (program : Assembled) (course : Course) (from : ℕ) (bre
       ∙ calm-next (guard_of_program program) w found.0 i.value none there free a away
 
   -- a step that stores at no watched byte changes no watched byte, so it is not the first step to a stop
-  was-changed : (k : ℕ) → from ≤ k
+  was-changed : (k : ℕ) → from ≤ k → list_all is_of_bytes watches ≡ true
       → ((a : ℕ) → is_watched watches a ≡ true
       → ram_byte (world_on course (k + 1)).memory a ≡ ram_byte (world_on course k).memory a)
       → list_any (is_changed_in (world_on course from) (world_on course (k + 1))) watches ≡ true
       → (from < k) × (list_any (is_changed_in (world_on course from) (world_on course k)) watches ≡ true)
-  was-changed k l same changed = (later (split k l), before)
+  was-changed k l bytes same changed = (later (split k l), before)
     where
       before : list_any (is_changed_in (world_on course from) (world_on course k)) watches ≡ true
       before =
-          sym (watched-same watches (peek (world_on course from).memory) (peek (world_on course (k + 1)).memory)
-          (peek (world_on course k).memory) (λ a is. same-peek (world_on course (k + 1)) (world_on course k) a (same a is)))
+          sym (watched-same watches (moment_of (world_on course from)) (moment_of (world_on course (k + 1)))
+          (moment_of (world_on course k)) bytes (λ a is. same-peek (world_on course (k + 1)) (world_on course k) a (same a is)))
           ∙ changed
 
       split : (k : ℕ) → from ≤ k → (from ≡ k) ⊎ (from < k)
@@ -347,7 +366,7 @@ module _ (free : Bool) (program : Assembled) (course : Course) (from : ℕ) (bre
       later : (from ≡ k) ⊎ (from < k) → from < k
       later (inl e) = absurd (true≢false
           (sym (ap (λ n. list_any (is_changed_in (world_on course from) (world_on course n)) watches) e ∙ before)
-          ∙ unchanged watches (peek (world_on course from).memory)))
+          ∙ unchanged watches (moment_of (world_on course from))))
       later (inr l) = l
 
   pub warns : WarnsOfStops alerts breaks watches (record { course = course; position = from })
@@ -366,11 +385,11 @@ module _ (free : Bool) (program : Assembled) (course : Course) (from : ℕ) (bre
           (was.0, ap (λ v. list_any (is_hit (moment_of (world_on course k))) breaks || v) was.1 ∙ or-true (list_any (is_hit (moment_of (world_on course k))) breaks))
 
       watched : list_any (is_changed_in (world_on course from) (world_on course (k + 1))) watches ≡ true
-          → (watches ≡ []) ⊎ ((free ≡ false) × IsCalm watches program.statements (world_on course from).memory pc)
+          → (watches ≡ []) ⊎ ((free ≡ false) × (list_all is_of_bytes watches ≡ true) × IsCalm watches program.statements (world_on course from).memory pc)
           → (from < k) × (is_stop breaks watches (world_on course from) (world_on course k) ≡ true)
       watched changed (inl none) =
-          absurd (true≢false (sym changed ∙ ap (λ (ws : List Span). list_any (is_changed_in (world_on course from) (world_on course (k + 1))) ws) none))
-      watched changed (inr is) = seen-before (was-changed k l (λ a among. calm-step k l went is.0 is.1 a among) changed)
+          absurd (true≢false (sym changed ∙ ap (λ (ws : List Watch). list_any (is_changed_in (world_on course from) (world_on course (k + 1))) ws) none))
+      watched changed (inr is) = seen-before (was-changed k l is.1 (λ a among. calm-step k l went is.0 is.2 a among) changed)
 
       go : (b : Bool) → list_any (is_hit (moment_of (world_on course (k + 1)))) breaks ≡ b
           → (b || list_any (is_changed_in (world_on course from) (world_on course (k + 1))) watches) ≡ true
@@ -381,7 +400,7 @@ module _ (free : Bool) (program : Assembled) (course : Course) (from : ℕ) (bre
       go false e changed = watched changed (are.watched pc (and-false (is_marked alerts.stores pc) _ off.1 changed))
 
 -- the same holds from the current position on
-pub warned : (free : Bool) (program : Assembled) (track : Track) (before : World) (breaks : List Break) (watches : List Span) (alerts : Alerts)
+pub warned : (free : Bool) (program : Assembled) (track : Track) (before : World) (breaks : List Break) (watches : List Watch) (alerts : Alerts)
     → before ≡ here track → track.course.origin.guard ≡ guard_of_run free program
     → AreAlerts free program.statements before.memory breaks watches alerts → WarnsOfStops alerts breaks watches track
 warned free program track before breaks watches alerts is guarded are =
@@ -389,7 +408,7 @@ warned free program track before breaks watches alerts is guarded are =
     (subst (λ (w : World). AreAlerts free program.statements w.memory breaks watches alerts) is are)
 
 -- and up to the step where a routine returns
-pub warns-left : (s : ℕ) (alerts : Alerts) (breaks : List Break) (watches : List Span) (track : Track) → WarnsOfStops alerts breaks watches track
+pub warns-left : (s : ℕ) (alerts : Alerts) (breaks : List Break) (watches : List Watch) (track : Track) → WarnsOfStops alerts breaks watches track
     → AlarmsAreComplete (is_left s (is_stop breaks watches (here track))) (λ shown. nat_le s shown.look.next_s || alarms alerts breaks watches (here track) shown)
     track.course track.position
 warns-left s alerts breaks watches track stops k l went seen calm =

@@ -1,6 +1,6 @@
 -- Which steps need a check for a stop when a run is executed in bursts. No public clause cites this file.
 use Rattle.std.specs.Prelude.{◌≡◌, ◌⊎◌, ℕ, Bool, true, false, ◌||◌, ◌&&◌, List, [], Some, None, is_some, nat_le, get_or, slice_get, Contains}
-use Rattle.std.specs.List.{list_any}
+use Rattle.std.specs.List.{list_any, list_all}
 use Rattle.a2_opcode.specs.declared.Instr.{Instr}
 use Rattle.a2_opcode.specs.declared.Row.{Row}
 use Rattle.a2_opcode.specs.Table.{row}
@@ -15,12 +15,13 @@ use Rattle.a2_services.specs.Services.{service_at}
 use Rattle.a2_asm.specs.declared.program.Statement.{Statement}
 use Rattle.a2_asm.specs.Programs.{Holds}
 use Rattle.a2_history.specs.Going.{Track, here, AlarmsAreComplete}
-use Rattle.a2_debugger.specs.Stops.{Moment, is_hit, is_span_changed, is_stop}
+use Rattle.a2_debugger.specs.Stops.{Moment, moment_of, is_hit, is_watch_changed, is_stop}
 use Rattle.a2_debugger.specs.declared.stops.Break.{Break}
 use Rattle.a2_debugger.specs.declared.stops.Moment.{Moment as DeclaredMoment}
-use Rattle.a2_symbols.specs.declared.places.Span.{Span}
+use Rattle.a2_debugger.specs.declared.stops.Watch.{Watch}
+use Rattle.a2_debugger.specs.declared.stops.Watch.TheVariants.{OfBytes}
 
--- for each address, whether it has a breakpoint, and whether a step there may change a watched byte
+-- for each address, whether it has a breakpoint, and whether a step there may change something watched
 pub record Alerts : Type 0 where
   pub stops : List Bool
   pub stores : List Bool
@@ -29,20 +30,29 @@ pub record Alerts : Type 0 where
 abbrev pub is_marked : List Bool → ℕ → Bool
 is_marked marks address = get_or marks address true
 
--- whether an address is watched
-abbrev pub is_watched : List Span → ℕ → Bool
-is_watched watches address = list_any (λ span. nat_le span.first address && nat_le address span.last) watches
+-- whether bytes are watched, and an address is among them
+abbrev pub is_in : Watch → ℕ → Bool
+is_in (OfBytes span) address = nat_le span.first address && nat_le address span.last
+is_in watch address = false
+
+-- whether the byte at an address is watched
+abbrev pub is_watched : List Watch → ℕ → Bool
+is_watched watches address = list_any (λ watch. is_in watch address) watches
+
+abbrev pub is_of_bytes : Watch → Bool
+is_of_bytes (OfBytes span) = true
+is_of_bytes watch = false
 
 -- the place of an instruction's operand
 abbrev pub place_in : World → Instr → Place
 place_in world i = place_of memory_access world.memory world.registers i.mode i.value
 
 -- in any world, an instruction's operand is at no watched address
-abbrev pub OperandNeverWatched : List Span → Instr → Type 0
+abbrev pub OperandNeverWatched : List Watch → Instr → Type 0
 OperandNeverWatched watches i = (world : World) → list_any (is_watched watches) (place_addresses (place_in world i)) ≡ false
 
 -- in any world, it stores and pushes at no watched address
-abbrev pub NeverChangesWatched : List Span → Instr → Type 0
+abbrev pub NeverChangesWatched : List Watch → Instr → Type 0
 NeverChangesWatched watches i = (world : World)
     → list_any (is_watched watches) (effect_stores (effect_of i.mnemonic) (place_in world i) world.registers.s) ≡ false
 
@@ -52,32 +62,32 @@ IsFetchedAt memory statement i = (other : Memory) → ((a : ℕ) → Holds state
     → (found : Row) × (row i.mnemonic i.mode ≡ Some found) × (fetched (peek other) statement.addr ≡ instruction found i.value)
 
 -- such an instruction that changes no watched byte
-pub record IsHarmless (watches : List Span) (memory : Memory) (statement : Statement) : Type 0 where
+pub record IsHarmless (watches : List Watch) (memory : Memory) (statement : Statement) : Type 0 where
   pub instr : Instr
   pub stands : IsFetchedAt memory statement instr
   pub spares : NeverChangesWatched watches instr
 
 -- the statement is such an instruction, and not a service
-pub record IsCalmStatement (watches : List Span) (memory : Memory) (statement : Statement) : Type 0 where
+pub record IsCalmStatement (watches : List Watch) (memory : Memory) (statement : Statement) : Type 0 where
   pub some : is_some statement.instr ≡ true
   pub none : service_at statement.addr ≡ None
   pub harmless : IsHarmless watches memory statement
 
 -- one of these statements begins at the address and is calm
-abbrev pub IsCalm : List Span → List Statement → Memory → ℕ → Type 0
+abbrev pub IsCalm : List Watch → List Statement → Memory → ℕ → Type 0
 IsCalm watches statements memory address =
     (s : Statement) × Contains statements s × (s.addr ≡ address) × IsCalmStatement watches memory s
 
 -- all addresses except calm ones are marked
-abbrev pub MarksAllBut : List Span → List Statement → Memory → List Bool → Type 0
+abbrev pub MarksAllBut : List Watch → List Statement → Memory → List Bool → Type 0
 MarksAllBut watches statements memory marks =
     (address : ℕ) → is_marked marks address ≡ false → IsCalm watches statements memory address
 
--- the addresses of breakpoints are marked and, if bytes are watched, all addresses except calm ones
-pub record AreAlerts (free : Bool) (statements : List Statement) (memory : Memory) (breaks : List Break) (watches : List Span) (alerts : Alerts) : Type 0 where
+-- the addresses of breakpoints are marked and, if something is watched, all addresses; if only bytes are, all except calm ones
+pub record AreAlerts (free : Bool) (statements : List Statement) (memory : Memory) (breaks : List Break) (watches : List Watch) (alerts : Alerts) : Type 0 where
   pub breaks_marked : (moment : Moment) → list_any (is_hit moment) breaks ≡ true → is_marked alerts.stops moment.pc ≡ true
   pub watched : (address : ℕ) → is_marked alerts.stores address ≡ false
-      → (watches ≡ []) ⊎ ((free ≡ false) × IsCalm watches statements memory address)
+      → (watches ≡ []) ⊎ ((free ≡ false) × (list_all is_of_bytes watches ≡ true) × IsCalm watches statements memory address)
 
 -- the state that decides a stop, with RAM as a function of the address
 abbrev pub moment_of_declared : DeclaredMoment → Moment
@@ -95,14 +105,14 @@ moment_after shown = record {
   ram = shown.ram;
 }
 
--- a step that reaches a breakpoint whose condition holds, or one that may change a watched byte and after which a watched byte
--- differs from the given world
-abbrev pub alarms : Alerts → List Break → List Span → World → Shown → Bool
+-- a step that reaches a breakpoint whose condition holds, or one that may change something watched and after which it differs from
+-- the given world
+abbrev pub alarms : Alerts → List Break → List Watch → World → Shown → Bool
 alarms alerts breaks watches now shown =
     (is_marked alerts.stops shown.look.next_pc && list_any (is_hit (moment_after shown)) breaks)
-    || (is_marked alerts.stores shown.look.pc && list_any (is_span_changed (peek now.memory) shown.ram) watches)
+    || (is_marked alerts.stores shown.look.pc && list_any (is_watch_changed (moment_of now) (moment_after shown)) watches)
 
 -- every step from a position on that reaches a stop is one of these
-abbrev pub WarnsOfStops : Alerts → List Break → List Span → Track → Type 0
+abbrev pub WarnsOfStops : Alerts → List Break → List Watch → Track → Type 0
 WarnsOfStops alerts breaks watches track =
     AlarmsAreComplete (is_stop breaks watches (here track)) (alarms alerts breaks watches (here track)) track.course track.position

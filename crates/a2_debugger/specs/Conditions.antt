@@ -1,13 +1,19 @@
--- The syntax of breakpoints and their conditions. This project's profile.
+-- The syntax of breakpoints, their conditions, and what is watched. This project's profile.
 use Rattle.std.specs.Prelude.{ℕ, ◌==◌, List, [], ◌∷◌, if◌then◌else◌, Option, Some, None, ◌&&◌, Bool, false}
 use Rattle.a2_text.specs.Signs.{sign}
 use Rattle.a2_text.specs.Bytes.{capital}
 use Rattle.a2_asm.specs.Assembled.{Assembled}
-use Rattle.a2_symbols.specs.Places.{number_of, place_of}
+use Rattle.a2_symbols.specs.Places.{number_of, place_of, span_of}
+use Rattle.a2_symbols.specs.declared.places.Span.{Span}
+use Rattle.a2_debugger.specs.Stops.{watchable}
 use Rattle.a2_debugger.specs.declared.stops.Register.{Register}
 use Rattle.a2_debugger.specs.declared.stops.Register.TheVariants.{A, X, Y, S, P}
+use Rattle.a2_debugger.specs.declared.stops.Flag.{Flag}
+use Rattle.a2_debugger.specs.declared.stops.Flag.TheVariants as flag
 use Rattle.a2_debugger.specs.declared.stops.Subject.{Subject}
-use Rattle.a2_debugger.specs.declared.stops.Subject.TheVariants.{InRegister, InByte}
+use Rattle.a2_debugger.specs.declared.stops.Subject.TheVariants.{InRegister, InFlag, InByte}
+use Rattle.a2_debugger.specs.declared.stops.Watch.{Watch}
+use Rattle.a2_debugger.specs.declared.stops.Watch.TheVariants.{OfRegister, OfFlag}
 use Rattle.a2_debugger.specs.declared.stops.Relation.{Relation}
 use Rattle.a2_debugger.specs.declared.stops.Relation.TheVariants.{Equal, Other, Less, More}
 use Rattle.a2_debugger.specs.declared.stops.Condition.{Condition}
@@ -28,17 +34,41 @@ register_of [] = None
 register_of (letter ∷ []) = register_by (capital letter)
 register_of (letter ∷ next ∷ more) = None
 
-abbrev pub in_byte : Option ℕ → Option Subject
-in_byte None = None
-in_byte (Some address) = Some (InByte address)
+abbrev pub flag_by : ℕ → Option Flag
+flag_by letter =
+    if letter == sign "N" then Some flag.N
+    else if letter == sign "V" then Some flag.V
+    else if letter == sign "D" then Some flag.D
+    else if letter == sign "I" then Some flag.I
+    else if letter == sign "Z" then Some flag.Z
+    else if letter == sign "C" then Some flag.C
+    else None
 
-abbrev pub subject_by : Option Register → Option ℕ → Option Subject
-subject_by (Some register) place = Some (InRegister register)
-subject_by None place = in_byte place
+-- the flag of a letter in either case
+abbrev pub flag_of : List ℕ → Option Flag
+flag_of [] = None
+flag_of (letter ∷ []) = flag_by (capital letter)
+flag_of (letter ∷ next ∷ more) = None
 
--- a register, or otherwise the byte at an address
+abbrev pub subject_by : Option Register → Option ℕ → Option Flag → Option Subject
+subject_by (Some register) place flag = Some (InRegister register)
+subject_by None (Some address) flag = Some (InByte address)
+subject_by None None (Some flag) = Some (InFlag flag)
+subject_by None None None = None
+
+-- a register, or otherwise the byte at an address, or otherwise a flag
 abbrev pub subject_of : Assembled → List ℕ → Option Subject
-subject_of program word = subject_by (register_of word) (place_of program word)
+subject_of program word = subject_by (register_of word) (place_of program word) (flag_of word)
+
+abbrev pub watch_by : Option Register → Option Span → Option Flag → Option Watch
+watch_by (Some register) span flag = Some (OfRegister register)
+watch_by None (Some span) flag = watchable span
+watch_by None None (Some flag) = Some (OfFlag flag)
+watch_by None None None = None
+
+-- a register, or otherwise the bytes from one address to another, or otherwise a flag
+abbrev pub watch_of : Assembled → List ℕ → Option Watch
+watch_of program word = watch_by (register_of word) (span_of program word) (flag_of word)
 
 abbrev pub relation_of : List ℕ → Option Relation
 relation_of [] = None

@@ -12,22 +12,22 @@ use Rattle.a2_routines.specs.Routines.{is_call}
 use Rattle.a2_history.specs.Routines.{entered, IsNewestOutside}
 use Rattle.a2_debugger.specs.Words.{IsVerb}
 use Rattle.a2_debugger.specs.Sayings.{IsCommandOf, IsNoCommand}
-use Rattle.a2_debugger.specs.Stops.{is_stop, is_changed_in}
+use Rattle.a2_debugger.specs.Stops.{is_stop, is_changed_in, is_same_watch}
 use Rattle.a2_debugger.specs.declared.inspector_command.InspectorCommand.{InspectorCommand}
 use Rattle.a2_debugger.specs.declared.inspector_command.Outcome.{Outcome}
 use Rattle.a2_debugger.specs.declared.inspector_command.Outcome.TheVariants.{Typed, KeysFull, Memory}
-use Rattle.a2_debugger.specs.declared.inspector_command.InspectorCommand.TheVariants.{Step, Next, Out, Back, GoBackOver, Go, Until, GoBack, Watch, Who, Break, Clear, TypeKeys}
+use Rattle.a2_debugger.specs.declared.inspector_command.InspectorCommand.TheVariants.{Step, Next, Out, Back, GoBackOver, Go, Until, GoBack, Watch, Who, Break, Clear, ClearAt, Unwatch, TypeKeys}
 use Rattle.a2_debugger.specs.declared.stops.Break.{Break as Breakpoint}
-use Rattle.a2_symbols.specs.declared.places.Span.{Span}
+use Rattle.a2_debugger.specs.declared.stops.Watch.{Watch as Watched}
 use Rattle.a2_debugger.specs.declared.verbs.Verb.{Verb}
 
 pub record Inspection : Type 0 where
   pub program : Assembled
   -- the run and the current position in it
   pub track : Track
-  -- the breakpoints and the watched spans, in the order in which they were set
+  -- the breakpoints and what is watched, in the order in which they were set
   pub breaks : List Breakpoint
-  pub watches : List Span
+  pub watches : List Watched
   -- the line that an empty line repeats
   pub last : List ℕ
   -- the greatest number of steps that a command executes while it looks for a place
@@ -104,12 +104,12 @@ others address breaks = filter (λ b. not (b.address == address)) breaks
 abbrev pub with_break : Breakpoint → List Breakpoint → List Breakpoint
 with_break b breaks = if nat_lt (length (others b.address breaks)) 64 then others b.address breaks ++ b ∷ [] else others b.address breaks
 
--- a span is added, each one only once; there are at most 8
-abbrev pub without_span : Span → List Span → List Span
-without_span span watches = filter (λ w. not ((w.first == span.first) && (w.last == span.last))) watches
+-- something to watch is added, each only once; there are at most 8
+abbrev pub without_watch : Watched → List Watched → List Watched
+without_watch watch watches = filter (λ w. not (is_same_watch watch w)) watches
 
-abbrev pub with_watch : Span → List Span → List Span
-with_watch span watches = if nat_lt (length (without_span span watches)) 8 then without_span span watches ++ span ∷ [] else without_span span watches
+abbrev pub with_watch : Watched → List Watched → List Watched
+with_watch watch watches = if nat_lt (length (without_watch watch watches)) 8 then without_watch watch watches ++ watch ∷ [] else without_watch watch watches
 
 -- the effect of a command on the run, with these stops
 abbrev pub Moves : InspectorCommand → (World → Bool) → ℕ → Track → Track → Type 0
@@ -122,18 +122,20 @@ Moves GoBackOver stop most old new = GoesBackOver old new ⊎ (new ≡ old)
 Moves Go stop most old new = GoesOn stop most old new
 Moves (Until address) stop most old new = GoesOn (is_at address) most old new
 Moves GoBack stop most old new = GoesBack stop old new
-Moves (Who span) stop most old new = GoesBack (λ world. is_changed_in (here old) world span) old new
+Moves (Who watch) stop most old new = GoesBack (λ world. is_changed_in (here old) world watch) old new
 Moves (TypeKeys keys) stop most old new = Types keys old new
 Moves order stop most old new = new ≡ old
 
--- the effect of a command on the breakpoints and the watched spans
+-- the effect of a command on the breakpoints and on what is watched
 abbrev pub breaks_by : InspectorCommand → List Breakpoint → List Breakpoint
 breaks_by (Break b) breaks = with_break b breaks
 breaks_by Clear breaks = []
+breaks_by (ClearAt address) breaks = others address breaks
 breaks_by order breaks = breaks
 
-abbrev pub watches_by : InspectorCommand → List Span → List Span
-watches_by (Watch span) watches = with_watch span watches
+abbrev pub watches_by : InspectorCommand → List Watched → List Watched
+watches_by (Watch watch) watches = with_watch watch watches
+watches_by (Unwatch watch) watches = without_watch watch watches
 watches_by Clear watches = []
 watches_by order watches = watches
 

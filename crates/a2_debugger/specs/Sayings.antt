@@ -4,14 +4,13 @@ use Rattle.a2_text.specs.Bytes.{number_in}
 use Rattle.a2_text.specs.Words.{words, only_word}
 use Rattle.a2_bus.specs.KeyText.{SpellsKeys}
 use Rattle.a2_asm.specs.Assembled.{Assembled}
-use Rattle.a2_symbols.specs.Places.{place_of, span_of}
-use Rattle.a2_debugger.specs.Stops.{watchable}
-use Rattle.a2_debugger.specs.Conditions.{break_in}
-use Rattle.a2_symbols.specs.declared.places.Span.{Span}
+use Rattle.a2_symbols.specs.Places.{place_of}
+use Rattle.a2_debugger.specs.Conditions.{break_in, watch_of}
+use Rattle.a2_debugger.specs.declared.stops.Watch.{Watch as Watched}
 use Rattle.a2_debugger.specs.declared.inspector_command.InspectorCommand.{InspectorCommand}
 use Rattle.a2_debugger.specs.declared.inspector_command.InspectorCommand.TheVariants as order
 use Rattle.a2_debugger.specs.declared.verbs.Verb.{Verb}
-use Rattle.a2_debugger.specs.declared.verbs.Verb.TheVariants.{Step, Next, Out, Back, Rnext, Go, Until, Rback, Watch, Who, Break, Clear, Keys, Where, Regs, Print, Mem, Screen, List as Lines, Info, Help}
+use Rattle.a2_debugger.specs.declared.verbs.Verb.TheVariants.{Step, Next, Out, Back, Rnext, Go, Until, Rback, Watch, Who, Break, Clear, Unwatch, Keys, Where, Regs, Print, Mem, Screen, List as Lines, Info, Stack, Help}
 
 -- a number of steps: one word of decimal digits, at most 65,535; 1 if there is no word
 abbrev pub count_in : List (List ℕ) → Option ℕ
@@ -27,13 +26,13 @@ place_by program (Some word) = place_of program word
 abbrev pub place_in : Assembled → List (List ℕ) → Option ℕ
 place_in program words = place_by program (only_word words)
 
-abbrev pub span_by_word : Assembled → Option (List ℕ) → Option Span
-span_by_word program None = None
-span_by_word program (Some word) = watchable (span_of program word)
+abbrev pub watch_by_word : Assembled → Option (List ℕ) → Option Watched
+watch_by_word program None = None
+watch_by_word program (Some word) = watch_of program word
 
--- the bytes to watch, given by the only word
-abbrev pub span_in : Assembled → List (List ℕ) → Option Span
-span_in program words = span_by_word program (only_word words)
+-- what to watch, given by the only word
+abbrev pub watch_in : Assembled → List (List ℕ) → Option Watched
+watch_in program words = watch_by_word program (only_word words)
 
 -- the text after one blank spells these keys
 abbrev pub SpellsAfterBlank : List ℕ → List ℕ → Type 0
@@ -53,10 +52,12 @@ IsCommandOf program Rnext rest order.GoBackOver = words rest ≡ []
 IsCommandOf program Go rest order.Go = words rest ≡ []
 IsCommandOf program Until rest (order.Until address) = place_in program (words rest) ≡ Some address
 IsCommandOf program Rback rest order.GoBack = words rest ≡ []
-IsCommandOf program Watch rest (order.Watch span) = span_in program (words rest) ≡ Some span
-IsCommandOf program Who rest (order.Who span) = span_in program (words rest) ≡ Some span
+IsCommandOf program Watch rest (order.Watch watch) = watch_in program (words rest) ≡ Some watch
+IsCommandOf program Who rest (order.Who watch) = watch_in program (words rest) ≡ Some watch
 IsCommandOf program Break rest (order.Break b) = break_in program (words rest) ≡ Some b
 IsCommandOf program Clear rest order.Clear = words rest ≡ []
+IsCommandOf program Clear rest (order.ClearAt address) = place_in program (words rest) ≡ Some address
+IsCommandOf program Unwatch rest (order.Unwatch watch) = watch_in program (words rest) ≡ Some watch
 IsCommandOf program Keys rest (order.TypeKeys keys) = SpellsAfterBlank rest keys
 IsCommandOf program Where rest (order.Show show) = Unit {0}
 IsCommandOf program Regs rest (order.Show show) = Unit {0}
@@ -65,6 +66,7 @@ IsCommandOf program Mem rest (order.Show show) = Unit {0}
 IsCommandOf program Screen rest (order.Show show) = Unit {0}
 IsCommandOf program Lines rest (order.Show show) = Unit {0}
 IsCommandOf program Info rest (order.Show show) = Unit {0}
+IsCommandOf program Stack rest (order.Show show) = Unit {0}
 IsCommandOf program Help rest (order.Show show) = Unit {0}
 IsCommandOf program verb rest order = ⊥
 
@@ -78,9 +80,10 @@ IsNoCommand program Rnext rest = words rest ≢ []
 IsNoCommand program Go rest = words rest ≢ []
 IsNoCommand program Until rest = place_in program (words rest) ≡ None
 IsNoCommand program Rback rest = words rest ≢ []
-IsNoCommand program Watch rest = span_in program (words rest) ≡ None
-IsNoCommand program Who rest = span_in program (words rest) ≡ None
+IsNoCommand program Watch rest = watch_in program (words rest) ≡ None
+IsNoCommand program Who rest = watch_in program (words rest) ≡ None
 IsNoCommand program Break rest = break_in program (words rest) ≡ None
-IsNoCommand program Clear rest = words rest ≢ []
+IsNoCommand program Clear rest = (words rest ≢ []) × (place_in program (words rest) ≡ None)
+IsNoCommand program Unwatch rest = watch_in program (words rest) ≡ None
 IsNoCommand program Keys rest = SpellsNoneAfterBlank rest
 IsNoCommand program verb rest = Unit {0}

@@ -2,7 +2,7 @@
 use Rattle.std.specs.Prelude.{◌≡◌, ◌⊎◌, ℕ, ◌<◌, List, [], length, map, codes}
 use Rattle.std.specs.Borrow.{Bor}
 use Rattle.a2_debugger.specs.declared.verbs.Verb.{Verb}
-use Rattle.a2_debugger.specs.declared.verbs.Verb.TheVariants.{Step, Next, Out, Back, Rnext, Go, Until, Rback, Watch, Who, Break, Clear, Keys, Where, Regs, Print, Mem, Screen, List as Lines, Info, Help}
+use Rattle.a2_debugger.specs.declared.verbs.Verb.TheVariants.{Step, Next, Out, Back, Rnext, Go, Until, Rback, Watch, Who, Break, Clear, Unwatch, Keys, Where, Regs, Print, Mem, Screen, List as Lines, Info, Stack, Help}
 
 -- the full word of a verb, in capitals
 abbrev pub letters : Verb → List ℕ
@@ -18,6 +18,7 @@ letters Watch = codes "WATCH"
 letters Who = codes "WHO"
 letters Break = codes "BREAK"
 letters Clear = codes "CLEAR"
+letters Unwatch = codes "UNWATCH"
 letters Keys = codes "KEYS"
 letters Where = codes "WHERE"
 letters Regs = codes "REGS"
@@ -26,6 +27,7 @@ letters Mem = codes "MEM"
 letters Screen = codes "SCREEN"
 letters Lines = codes "LIST"
 letters Info = codes "INFO"
+letters Stack = codes "STACK"
 letters Help = codes "HELP"
 
 -- the letter that abbreviates it, if there is one

@@ -1,26 +1,25 @@
 //! Which steps need a check for a stop when a run is executed in bursts.
 
 ghost use Rattle.std.specs.Prelude.{◌≡◌, ◌⊎◌, ℕ, true, false, [], length, IfOk, IfSome};
-ghost use Rattle.std.specs.List.{list_any};
+ghost use Rattle.std.specs.List.{list_any, list_all};
 ghost use Rattle.a2_machine.specs.State.{world_of_state};
 ghost use Rattle.a2_debugger.specs.Stops.{Moment, is_hit};
 ghost use Rattle.a2_debugger.specs.Alerts as alert;
 ghost use Rattle.a2_debugger.specs.Alerts.{is_marked, IsCalmStatement, IsCalm, MarksAllBut, AreAlerts};
 
-use crate::stops::{Break, ram_of};
+use crate::stops::{Break, Watch, ram_of};
 use a2_asm::{Program, Statement};
 use a2_effect::stores_operand;
 use a2_machine::Machine;
 use a2_opcode::{Instr, Mnemonic, Mode, decode};
 use a2_services::service_at;
-use a2_symbols::Span;
 use std::alloc::{AllocError, Allocator, Global};
 use std::marker::Model;
 
 /// The number of addresses.
 const ADDRESSES: usize = 0x1_0000;
 
-/// For each address, whether it has a breakpoint and whether a step there may change a watched byte.
+/// For each address, whether it has a breakpoint and whether a step there may change something watched.
 pub struct Marks<A: Allocator = Global> {
     stops: Vec<bool, A>,
     stores: Vec<bool, A>,
@@ -66,17 +65,34 @@ impl<'a> Model for Alerts<'a> {
     ghost invariant = { λ a. (length a.stops.now ≡ 65536) × (length a.stores.now ≡ 65536) };
 }
 
-// Whether an address is watched.
-pub(crate) fn is_watched(watches: &[Span], address: u16) -> bool
+// Whether bytes are watched, and an address is among them.
+fn is_in(watch: &Watch, address: u16) -> bool
+    ensures { result ≡ alert.is_in watch.now address }
+{
+    match *watch {
+        Watch::OfBytes(span) => span.first <= address && address <= span.last,
+        _ => false,
+    }
+}
+
+// Whether the byte at an address is watched.
+pub(crate) fn is_watched(watches: &[Watch], address: u16) -> bool
     ensures { result ≡ alert.is_watched watches.now address }
+{
+    watches.iter().any(|watch| is_in(watch, address))
+}
+
+// Whether only bytes are watched.
+fn are_bytes(watches: &[Watch]) -> bool
+    ensures { result ≡ list_all alert.is_of_bytes watches.now }
 {
     watches
         .iter()
-        .any(|span| span.first <= address && address <= span.last)
+        .all(|watch| matches!(watch, Watch::OfBytes(_)))
 }
 
 // Whether an instruction's operand is never at a watched address, whatever registers and memory hold.
-fn spares_operand(instr: Instr, watches: &[Span]) -> bool
+fn spares_operand(instr: Instr, watches: &[Watch]) -> bool
     ensures { result ≡ true → alert.OperandNeverWatched watches.now instr }
 {
     match instr.mode {
@@ -88,7 +104,7 @@ fn spares_operand(instr: Instr, watches: &[Span]) -> bool
 
 // Whether an instruction never stores or pushes at a watched address, whatever registers and memory hold.
 #[tactic(auto, unfolding(a2_effect::specs::Effect::effect_of))]
-fn spares(instr: Instr, watches: &[Span]) -> bool
+fn spares(instr: Instr, watches: &[Watch]) -> bool
     ensures { result ≡ true → alert.NeverChangesWatched watches.now instr }
 {
     match instr.mnemonic {
@@ -114,7 +130,7 @@ fn instruction_in_memory<A: Allocator + Copy>(
 fn is_calm<A: Allocator + Copy>(
     statement: &Statement,
     machine: &Machine<A>,
-    watches: &[Span],
+    watches: &[Watch],
 ) -> bool
     ensures { result ≡ true → IsCalmStatement watches.now (world_of_state machine.now.state).memory statement.now }
 {
@@ -132,7 +148,7 @@ fn calm<A: Allocator + Copy>(
     marks: &mut [bool],
     statement: &Statement,
     machine: &Machine<A>,
-    watches: &[Span],
+    watches: &[Watch],
 )
     requires { length marks.old ≡ 65536 }
     ensures { (address : ℕ) → is_marked marks.new address ≡ false → (is_marked marks.old address ≡ false)
@@ -148,7 +164,7 @@ fn calm_all<A: Allocator + Copy>(
     marks: &mut [bool],
     statements: &[Statement],
     machine: &Machine<A>,
-    watches: &[Span],
+    watches: &[Watch],
 )
     requires size { length marks.old ≡ 65536 }
     requires all { MarksAllBut watches.now statements.now (world_of_state machine.now.state).memory marks.old }
@@ -167,22 +183,23 @@ fn fill(marks: &mut [bool], mark: bool)
     marks.fill(mark);
 }
 
-// Marks the addresses where a step may change a watched byte, if any bytes are watched: all except those of instructions that
-// never do.
+// Marks the addresses where a step may change something watched. If only bytes are watched, these are all except those of
+// instructions that never do.
 fn mark_stores<A: Allocator + Copy>(
     marks: &mut [bool],
     free: bool,
     statements: &[Statement],
     machine: &Machine<A>,
-    watches: &[Span],
+    watches: &[Watch],
 )
     requires { length marks.old ≡ 65536 }
     ensures { (address : ℕ) → is_marked marks.new address ≡ false
         → (watches.now ≡ [])
-        ⊎ ((free ≡ false) × IsCalm watches.now statements.now (world_of_state machine.now.state).memory address) }
+        ⊎ ((free ≡ false) × (list_all alert.is_of_bytes watches.now ≡ true)
+        × IsCalm watches.now statements.now (world_of_state machine.now.state).memory address) }
 {
     fill(marks, !watches.is_empty());
-    if !free && !watches.is_empty() {
+    if !free && !watches.is_empty() && are_bytes(watches) {
         calm_all(marks, statements, machine, watches);
     }
 }
@@ -227,16 +244,16 @@ impl<A: Allocator + Copy> Marks<A> {
 }
 
 impl<A: Allocator + Copy> Marks<A> {
-    /// Marks the addresses of breakpoints and, if bytes are watched, all addresses where a step may change one. The exceptions
-    /// are instructions of a guarded program, as found in the machine's memory, that store nothing, or that store only at a
-    /// fixed operand address that is not watched.
+    /// Marks the addresses of breakpoints and, if something is watched, all addresses where a step may change it. If only bytes are
+    /// watched, the exceptions are instructions of a guarded program, as found in the machine's memory, that store nothing, or that
+    /// store only at a fixed operand address that is not watched.
     pub fn set<C: Allocator + Copy>(
         &mut self,
         free: bool,
         program: &Program<C>,
         machine: &Machine<C>,
         breaks: &[Break],
-        watches: &[Span],
+        watches: &[Watch],
     )
         ensures { AreAlerts free program.now.statements (world_of_state machine.now.state).memory breaks.now watches.now self.new }
     {
@@ -270,9 +287,9 @@ impl Alerts<'_> {
         self.stops[usize::from(address)]
     }
 
-    /// Returns whether a step at an address may change a watched byte.
+    /// Returns whether a step at an address may change something watched.
     #[inline(always)]
-    pub fn may_store(&self, address: u16) -> bool
+    pub fn may_change(&self, address: u16) -> bool
         ensures { result ≡ is_marked self.now.stores address }
     {
         self.stores[usize::from(address)]

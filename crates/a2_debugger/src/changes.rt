@@ -1,13 +1,13 @@
 //! Reports what a command changed.
 
 use crate::alerts::is_watched;
-use crate::answer_sheet::{RunReport, Sheet, byte_at, one_of};
+use crate::answer_sheet::{RunReport, Sheet, byte_at, one_of, put_named};
 use a2_cpu::Regs;
 use a2_hex::RAM_END;
 use a2_machine::Machine;
 use a2_page::{Page, cell, glyph, print};
-use a2_stream::Gathered;
-use a2_text::{decimal, hex_pair, hex_word};
+use a2_stream::{Gathered, Output, WriteFault, put_all};
+use a2_text::{decimal, hex_pair};
 use arrayvec::ArrayVec;
 use std::alloc::Allocator;
 
@@ -64,11 +64,12 @@ fn put_byte<A: Allocator + Copy>(
     following: usize,
     sheet: &mut Sheet<A>,
 ) {
-    let next = one_of(following % CHANGES_IN_LINE == 0, b"\nchanged: $", b" $");
-    let lead = one_of(following == 0, b"changed: $", next);
+    let next = one_of(following % CHANGES_IN_LINE == 0, b"\nchanged: ", b" ");
     let before = hex_pair(byte_at(stand.before, address));
     let now = hex_pair(byte_at(stand.machine, address));
-    sheet.put_all(&[lead, &hex_word(address), b"=", &before, b"->", &now]);
+    sheet.put(one_of(following == 0, b"changed: ", next));
+    put_named(stand, address, sheet);
+    sheet.put_all(&[b"=", &before, b"->", &now]);
 }
 
 // Prints the old and new values of the bytes at these addresses.
@@ -139,17 +140,26 @@ fn screen_of<A: Allocator + Copy>(machine: &Machine<A>) -> Gathered {
     screen
 }
 
-/// Prints the lines of the screen that changed, each with its number, counted from 0, and without blanks at its end.
-pub(crate) fn put_screen_changes<A: Allocator + Copy>(stand: &RunReport<A>, sheet: &mut Sheet<A>) {
-    let (before, now) = (screen_of(stand.before), screen_of(stand.machine));
+/// Writes the lines of the screen that changed between two machines, each with its number, counted from 0, and without blanks at
+/// its end.
+pub(crate) fn put_changed_rows<A: Allocator + Copy, W: Output>(
+    before: &Machine<A>,
+    now: &Machine<A>,
+    writer: &mut W,
+) -> Result<(), WriteFault> {
+    let (before, now) = (screen_of(before), screen_of(now));
     let mut earlier = before.as_slice().split(|c| *c == b'\n');
     let mut number = 0u64;
     for line in now.as_slice().split(|c| *c == b'\n') {
         let line = line.trim_ascii_end();
         if line != earlier.next().unwrap_or(b"").trim_ascii_end() {
             let gap = one_of(line.is_empty(), b":", b": ");
-            sheet.put_all(&[b"screen ", decimal(number).as_slice(), gap, line, b"\n"]);
+            put_all(
+                &[b"screen ", decimal(number).as_slice(), gap, line, b"\n"],
+                writer,
+            )?;
         }
         number = number.saturating_add(1);
     }
+    Ok(())
 }

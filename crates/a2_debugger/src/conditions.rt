@@ -1,18 +1,18 @@
-//! Parsing of breakpoints and their conditions.
+//! Parsing of breakpoints, their conditions, and what is watched.
 
 ghost use Rattle.std.specs.Prelude.{◌≡◌};
 ghost use Rattle.a2_text.specs.Words.{words};
 ghost use Rattle.a2_symbols.specs.Places.{number_of as number_said};
 ghost use Rattle.a2_debugger.specs.Conditions as written;
 
-use crate::stops::{Break, Condition, Register, Relation, Subject};
+use crate::stops::{Break, Condition, Flag, Register, Relation, Subject, Watch, watchable};
 use a2_asm::Program;
-use a2_symbols::{number_of, place_of};
+use a2_symbols::{number_of, place_of, span_of};
 use a2_text::{capital, first_word};
 use std::alloc::Allocator;
 
-/// Returns the register named by a letter in either case, or `None` for any other text.
-pub fn register_of(word: &[u8]) -> Option<Register>
+// The register named by a letter in either case.
+fn register_of(word: &[u8]) -> Option<Register>
     ensures { result ≡ written.register_of word.now }
 {
     let [letter] = word else {
@@ -28,16 +28,48 @@ pub fn register_of(word: &[u8]) -> Option<Register>
     }
 }
 
-// The subject of a condition: a register, or otherwise the byte at an address.
-fn subject_of<A: Allocator + Copy>(program: &Program<A>, word: &[u8]) -> Option<Subject>
+// The flag named by a letter in either case.
+fn flag_of(word: &[u8]) -> Option<Flag>
+    ensures { result ≡ written.flag_of word.now }
+{
+    let [letter] = word else {
+        return None;
+    };
+    match capital(*letter) {
+        b'N' => Some(Flag::N),
+        b'V' => Some(Flag::V),
+        b'D' => Some(Flag::D),
+        b'I' => Some(Flag::I),
+        b'Z' => Some(Flag::Z),
+        b'C' => Some(Flag::C),
+        _ => None,
+    }
+}
+
+/// Returns the subject that a word names: a register; or otherwise the byte at an address; or otherwise a flag. So a name of the program
+/// hides a flag with the same letter.
+pub fn subject_of<A: Allocator + Copy>(program: &Program<A>, word: &[u8]) -> Option<Subject>
     ensures { result ≡ written.subject_of program.now word.now }
 {
-    match register_of(word) {
-        Some(register) => Some(Subject::InRegister(register)),
-        None => match place_of(program, word) {
-            Some(address) => Some(Subject::InByte(address)),
-            None => None,
-        },
+    if let Some(register) = register_of(word) {
+        return Some(Subject::InRegister(register));
+    }
+    match place_of(program, word) {
+        Some(address) => Some(Subject::InByte(address)),
+        None => Some(Subject::InFlag(flag_of(word)?)),
+    }
+}
+
+/// Returns what a word names to be watched: a register; or otherwise the byte or bytes at an address or two; or otherwise a flag.
+pub fn watch_of<A: Allocator + Copy>(program: &Program<A>, word: &[u8]) -> Option<Watch>
+    ensures { result ≡ written.watch_of program.now word.now }
+{
+    if let Some(register) = register_of(word) {
+        return Some(Watch::OfRegister(register));
+    }
+    match span_of(program, word) {
+        Some(span) => watchable(span),
+        None => Some(Watch::OfFlag(flag_of(word)?)),
     }
 }
 

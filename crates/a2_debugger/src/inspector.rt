@@ -24,7 +24,7 @@ ghost use Rattle.a2_debugger.specs.Inspections.{
   is_left,
   innermost,
   others,
-  without_span,
+  without_watch,
   with_break,
   with_watch,
   front,
@@ -35,10 +35,11 @@ mod replay;
 
 use crate::alerts::Marks;
 use crate::answer_sheet::{Detail, RunReport, report};
+use crate::changes::put_changed_rows;
 use crate::inspector_command::{InspectorCommand, Outcome, Show};
 use crate::reading::order_of;
 use crate::sights::{Alarm, At, Changed, Left, Stops};
-use crate::stops::Break;
+use crate::stops::{Break, Watch, is_same_watch};
 use crate::verbs::verb_of;
 use a2_asm::Program;
 use a2_bus::Keys;
@@ -46,7 +47,7 @@ use a2_history::{Entry, Halt, History, Lookout, Nothing, SearchTarget, TypingFau
 use a2_machine::{Cause, Machine};
 use a2_run::{AssembledText, RunArgs, started};
 use a2_stream::{Output, WriteFault};
-use a2_symbols::{Scene, Span};
+use a2_symbols::Scene;
 use a2_text::{cut, first_word, split_word};
 use a2_tty::Partner;
 use arrayvec::ArrayVec;
@@ -59,17 +60,17 @@ const MOST_BYTES: usize = 255;
 // A line.
 type Line = ArrayVec<u8, MOST_BYTES>;
 
-// The greatest numbers of breakpoints and of watched spans. The messages for too many of them contain these numbers.
+// The greatest numbers of breakpoints and of watchpoints. The messages for too many of them contain these numbers.
 const MOST_BREAKS: usize = 64;
 
 const MOST_WATCHES: usize = 8;
 
-// The breakpoints and the watched spans.
+// The breakpoints and the watchpoints.
 type Breaks = ArrayVec<Break, MOST_BREAKS>;
 
-type Watches = ArrayVec<Span, MOST_WATCHES>;
+type Watches = ArrayVec<Watch, MOST_WATCHES>;
 
-/// A run of a source that the lines of a debugger move in both directions. It also holds the breakpoints, the watched bytes,
+/// A run of a source that the lines of a debugger move in both directions. It also holds the breakpoints, the watchpoints,
 /// and the line that an empty line repeats.
 pub struct Inspector<'a, A: Allocator = Global> {
     alloc: A,
@@ -142,7 +143,7 @@ fn go_on<A: Allocator + Copy, S: SearchTarget, L: Lookout>(
     ensures { GoesOn (S.is_found_in sight.now) most history.old history.new }
 {
     match history.advance(most, sight, lookout) {
-        Halt::Seen => Outcome::Moved,
+        Halt::Seen => Outcome::Seen,
         Halt::Stopped(cause) => Outcome::Stopped(cause),
     }
 }
@@ -224,7 +225,10 @@ fn until<A: Allocator + Copy>(history: &mut History<A>, most: u32, address: u16)
     ensures { GoesOn (is_at address) most history.old history.new }
 {
     let at = At { address };
-    go_on(history, most, &at, &at)
+    match go_on(history, most, &at, &at) {
+        Outcome::Seen => Outcome::Moved,
+        outcome => outcome,
+    }
 }
 
 // Executes at most this many steps, up to a stop or until a routine returns. The routine is given by the stack pointer before
@@ -296,7 +300,13 @@ fn go_back_to_stop<A: Allocator + Copy>(history: &mut History<A>, stops: Stops<A
     requires { world_of_state stops.before.now.state ≡ here history.old }
     ensures { GoesBack (is_stop stops.entry.breaks.now stops.entry.watches.now (here history.old)) history.old history.new }
 {
-    go_back(history, &stops)
+    if stops.breaks.is_empty() && stops.watches.is_empty() {
+        return Outcome::NoneEarlier;
+    }
+    match go_back(history, &stops) {
+        Outcome::Moved => Outcome::SeenEarlier,
+        outcome => outcome,
+    }
 }
 
 // Goes back one step, or a whole routine.
@@ -313,13 +323,13 @@ fn go_back_over<A: Allocator + Copy>(history: &mut History<A>) -> Outcome
     }
 }
 
-// Goes back to just before the latest step that changed one of these bytes, or reports that there is none.
-fn who<A: Allocator + Copy>(history: &mut History<A>, span: Span, before: &Machine<A>) -> Outcome
+// Goes back to just before the latest step that changed this, or reports that there is none.
+fn who<A: Allocator + Copy>(history: &mut History<A>, watch: Watch, before: &Machine<A>) -> Outcome
     requires { world_of_state before.now.state ≡ here history.old }
-    ensures { GoesBack (λ world. is_changed_in (here history.old) world span) history.old history.new }
+    ensures { GoesBack (λ world. is_changed_in (here history.old) world watch) history.old history.new }
 {
-    match go_back(history, &Changed { span, before }) {
-        Outcome::NoneEarlier => Outcome::NeverChanged(span),
+    match go_back(history, &Changed { watch, before }) {
+        Outcome::NoneEarlier => Outcome::NeverChanged(watch),
         outcome => outcome,
     }
 }
@@ -354,28 +364,21 @@ fn set(breaks: &mut Breaks, place: Break) -> Outcome
     Outcome::Full
 }
 
-// Whether both spans are the same addresses.
-fn are_alike(one: &Span, other: Span) -> bool
-    ensures { result ≡ ((one.now.first == other.first) && (one.now.last == other.last)) }
+// Stops watching this.
+fn unwatch(watches: &mut Watches, watch: Watch)
+    ensures { watches.new.items ≡ without_watch watch watches.old.items }
 {
-    one.first == other.first && one.last == other.last
+    watches.retain(|watched| !is_same_watch(watch, watched));
 }
 
-// Stops watching these addresses.
-fn unwatch(watches: &mut Watches, span: Span)
-    ensures { watches.new.items ≡ without_span span watches.old.items }
+// Watches this.
+fn watch(watches: &mut Watches, watch: Watch) -> Outcome
+    ensures { watches.new.items ≡ with_watch watch watches.old.items }
 {
-    watches.retain(|watched| !are_alike(watched, span));
-}
-
-// Watches these bytes.
-fn watch(watches: &mut Watches, span: Span) -> Outcome
-    ensures { watches.new.items ≡ with_watch span watches.old.items }
-{
-    unwatch(watches, span);
+    unwatch(watches, watch);
     if watches.len() < MOST_WATCHES {
-        watches.push(span);
-        return Outcome::Watched(span);
+        watches.push(watch);
+        return Outcome::Watched(watch);
     }
     Outcome::FullWatches
 }
@@ -436,8 +439,8 @@ impl<'a, A: Allocator + Copy> Inspector<'a, A> {
         })
     }
 
-    // Executes a command.
-    fn execute_command(&mut self, order: InspectorCommand) -> Outcome
+    /// Executes a command, and returns its result.
+    pub fn execute_command(&mut self, order: InspectorCommand) -> Outcome
         ensures { IsDone order self.old self.new }
     {
         note(&mut self.before, &self.history);
@@ -465,13 +468,21 @@ impl<'a, A: Allocator + Copy> Inspector<'a, A> {
             }
             InspectorCommand::Until(address) => until(&mut self.history, self.most, address),
             InspectorCommand::GoBack => go_back_to_stop(&mut self.history, stops),
-            InspectorCommand::Who(span) => who(&mut self.history, span, stops.before),
-            InspectorCommand::Watch(span) => watch(&mut self.watches, span),
+            InspectorCommand::Who(watch) => who(&mut self.history, watch, stops.before),
+            InspectorCommand::Watch(thing) => watch(&mut self.watches, thing),
+            InspectorCommand::Unwatch(thing) => {
+                unwatch(&mut self.watches, thing);
+                Outcome::Shown(Show::Stops)
+            }
             InspectorCommand::Break(place) => set(&mut self.breaks, place),
             InspectorCommand::Clear => {
                 self.breaks.clear();
                 self.watches.clear();
                 Outcome::Cleared
+            }
+            InspectorCommand::ClearAt(address) => {
+                clear_at(&mut self.breaks, address);
+                Outcome::Shown(Show::Stops)
             }
             InspectorCommand::TypeKeys(keys) => type_keys(&mut self.history, keys),
             InspectorCommand::Show(show) => Outcome::Shown(show),
@@ -504,7 +515,7 @@ fn with_entries<A: Allocator + Copy>(
 ) -> (Outcome, Vec<Entry, A>)
     ensures { history.new ≡ history.old }
 {
-    let Outcome::Shown(Show::Place) = outcome else {
+    let Outcome::Shown(Show::Place | Show::Stack) = outcome else {
         return (outcome, Vec::new(alloc));
     };
     match history.entered() {
@@ -588,6 +599,20 @@ impl<'a, A: Allocator + Copy> Inspector<'a, A> {
     /// Returns the machine before the last line that held a command.
     pub fn before(&self) -> &Machine<A> {
         &self.before
+    }
+
+    /// Returns the routines that were entered before the current position and not left, the outermost first. Fails, with nothing
+    /// changed, if there is not enough memory.
+    pub fn entered(&mut self) -> Result<Vec<Entry, A>, AllocError>
+        ensures entered { IfOk result (λ entries. entries.items ≡ entered self.old.track.course self.old.track.position) }
+        ensures kept { self.new ≡ self.old }
+    {
+        self.history.entered()
+    }
+
+    /// Writes the rows of the screen that the last command changed, each after its number, from 0.
+    pub fn put_screen_changes<W: Output>(&self, writer: &mut W) -> Result<(), WriteFault> {
+        put_changed_rows(&self.before, self.history.machine(), writer)
     }
 
     /// Returns the program of the source.

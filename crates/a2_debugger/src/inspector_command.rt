@@ -1,6 +1,6 @@
 //! The commands that a line can hold.
 
-use crate::stops::{Break, Register};
+use crate::stops::{Break, Flag, Register, Watch};
 use crate::verbs::Verb;
 use a2_bus::Keys;
 use a2_symbols::Span;
@@ -14,6 +14,8 @@ pub enum Show {
     Registers,
     /// The value of an 8-bit register.
     Register(Register),
+    /// The value of a flag.
+    Flag(Flag),
     /// The value of PC.
     Counter,
     /// An address and the byte there.
@@ -24,8 +26,12 @@ pub enum Show {
     Screen,
     /// The source lines around the current position.
     Lines,
-    /// The breakpoints and the watched bytes.
+    /// The source lines around an address.
+    LinesAt(u16),
+    /// The breakpoints and the watchpoints.
     Stops,
+    /// The bytes of the stack, and the routines that they return from.
+    Stack,
     /// The list of commands.
     Help,
 }
@@ -43,20 +49,24 @@ pub enum InspectorCommand {
     Back(u16),
     /// Go back one step, or a whole routine.
     GoBackOver,
-    /// Execute steps up to a breakpoint or to just after a step that changed a watched byte.
+    /// Execute steps up to a breakpoint or to just after a step that changed something watched.
     Go,
     /// Execute steps up to an address.
     Until(u16),
-    /// Go back to the latest earlier breakpoint, or to just before the latest step that changed a watched byte.
+    /// Go back to the latest earlier breakpoint, or to just before the latest step that changed something watched.
     GoBack,
-    /// Watch these bytes.
-    Watch(Span),
-    /// Go back to just before the latest step that changed one of these bytes.
-    Who(Span),
+    /// Watch this.
+    Watch(Watch),
+    /// Stop watching this.
+    Unwatch(Watch),
+    /// Go back to just before the latest step that changed this.
+    Who(Watch),
     /// Set a breakpoint.
     Break(Break),
-    /// Remove all breakpoints and stop watching bytes.
+    /// Remove all breakpoints and watchpoints.
     Clear,
+    /// Remove the breakpoint at an address.
+    ClearAt(u16),
     /// Type keys.
     TypeKeys(Keys),
     /// Show something.
@@ -70,23 +80,27 @@ pub enum Outcome {
     Nothing,
     /// The run moved by the steps of the command, or up to the place it looked for. It may not have moved at all, at the start.
     Moved,
+    /// The run moved up to a stop, or until a routine returned.
+    Seen,
+    /// The run moved back to a stop.
+    SeenEarlier,
     /// Steps were executed until the machine was stuck or the limit of one line was reached.
     Stopped(a2_machine::Cause),
-    /// No earlier step begins at a breakpoint, or changed a watched byte.
+    /// No earlier step begins at a breakpoint, or changed something watched.
     NoneEarlier,
-    /// No earlier step changed one of these bytes.
-    NeverChanged(Span),
+    /// No earlier step changed this.
+    NeverChanged(Watch),
     /// No routine has been entered.
     NoRoutine,
     /// The breakpoint is set.
     Set(Break),
     /// The breakpoint could not be set: there are already as many as allowed.
     Full,
-    /// The bytes are watched.
-    Watched(Span),
-    /// The bytes are not watched: there are already as many watched spans as allowed.
+    /// This is watched.
+    Watched(Watch),
+    /// This is not watched: there are already as many watchpoints as allowed.
     FullWatches,
-    /// All breakpoints and watched spans were removed.
+    /// All breakpoints and watchpoints were removed.
     Cleared,
     /// Keys were typed.
     Typed,

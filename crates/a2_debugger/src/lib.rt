@@ -14,4 +14,11 @@ mod sights;
 mod stops;
 mod verbs;
 
+pub use conditions::{break_in, subject_of};
 pub use inspector::Inspector;
+pub use inspector_command::{InspectorCommand, Outcome, Show};
+pub use stops::{
+    Break, Condition, Flag, Moment, Register, Relation, Subject, Watch, in_flag, in_register,
+    is_changed_in, watchable,
+};
+pub use verbs::Verb;

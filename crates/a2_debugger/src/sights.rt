@@ -1,11 +1,10 @@
 //! The sights that a debugger's command looks for in a run.
 
 use crate::alerts::Alerts;
-use crate::stops::{Break, Moment, are_changed, is_at_break, is_changed_in, ram_of};
+use crate::stops::{Break, Moment, Watch, are_changed, is_at_break, is_watch_changed};
 use a2_burst::StepView;
 use a2_history::{Lookout, SearchTarget};
 use a2_machine::Machine;
-use a2_symbols::Span;
 use std::alloc::Allocator;
 
 /// Worlds with PC at an address.
@@ -35,11 +34,11 @@ impl Lookout for At {
     }
 }
 
-/// Worlds at a breakpoint, or in which a watched byte differs from a machine before.
+/// Worlds at a breakpoint, or in which something watched differs from a machine before.
 #[derive(Clone, Copy)]
 pub struct Stops<'a, B: Allocator> {
     pub breaks: &'a [Break],
-    pub watches: &'a [Span],
+    pub watches: &'a [Watch],
     pub before: &'a Machine<B>,
 }
 
@@ -50,13 +49,14 @@ impl<B: Allocator + Copy> SearchTarget for Stops<'_, B> {
     ghost is_found_in = { λ stops world. is_stop stops.breaks.now stops.watches.now (world_of_state stops.before.now.state) world };
 
     fn is_found_in<A: Allocator + Copy>(&self, machine: &Machine<A>) -> bool {
-        is_at_break(self.breaks, &Moment::of(machine))
-            || are_changed(self.watches, ram_of(self.before), ram_of(machine))
+        let moment = Moment::of(machine);
+        is_at_break(self.breaks, &moment)
+            || are_changed(self.watches, &Moment::of(self.before), &moment)
     }
 }
 
-/// The alarm for possible stops: a step that reaches a breakpoint whose condition holds, or a step that may have stored and
-/// after which a watched byte differs.
+/// The alarm for possible stops: a step that reaches a breakpoint whose condition holds, or a step that may have changed something
+/// watched and after which it differs.
 #[derive(Drop)]
 pub struct Alarm<'a, B: Allocator> {
     pub alerts: Alerts<'a>,
@@ -66,10 +66,9 @@ pub struct Alarm<'a, B: Allocator> {
 impl<B: Allocator + Copy> Alarm<'_, B> {
     ghost use Rattle.std.specs.Prelude.{◌≡◌, ◌&&◌, slice_get};
     ghost use Rattle.std.specs.List.{list_any};
-    ghost use Rattle.a2_bus.specs.Memory.{peek};
     ghost use Rattle.a2_machine.specs.State.{world_of_state};
     ghost use Rattle.a2_debugger.specs.Alerts.{is_marked, moment_after};
-    ghost use Rattle.a2_debugger.specs.Stops.{is_hit, is_span_changed};
+    ghost use Rattle.a2_debugger.specs.Stops.{is_hit, is_watch_changed as is_watch_changed_of, moment_of};
 
     // Whether a step reaches a breakpoint whose condition holds.
     #[inline(always)]
@@ -81,15 +80,19 @@ impl<B: Allocator + Copy> Alarm<'_, B> {
             && is_at_break(self.stops.breaks, &Moment::following(look, ram))
     }
 
-    // Whether a step may have stored and a watched byte differs after it.
+    // Whether a step may have changed something watched, and it differs after the step.
     #[inline(always)]
     fn changed_watched(&self, look: StepView, ram: &[u8]) -> bool
         ensures { result ≡ (is_marked self.now.alerts.stores look.pc
-            && list_any (is_span_changed (peek (world_of_state self.now.stops.before.now.state).memory) (slice_get ram.now))
-            self.now.stops.watches.now) }
+            && list_any (is_watch_changed_of (moment_of (world_of_state self.now.stops.before.now.state))
+            (moment_after (record { look = look; ram = slice_get ram.now }))) self.now.stops.watches.now) }
     {
-        self.alerts.may_store(look.pc)
-            && are_changed(self.stops.watches, ram_of(self.stops.before), ram)
+        self.alerts.may_change(look.pc)
+            && are_changed(
+                self.stops.watches,
+                &Moment::of(self.stops.before),
+                &Moment::following(look, ram),
+            )
     }
 }
 
@@ -140,10 +143,10 @@ impl<B: Allocator + Copy> Lookout for Left<'_, B> {
     }
 }
 
-/// Worlds in which one of these bytes differs from a machine before.
+/// Worlds in which what is watched differs from a machine before.
 #[derive(Drop)]
 pub struct Changed<'a, B: Allocator> {
-    pub span: Span,
+    pub watch: Watch,
     pub before: &'a Machine<B>,
 }
 
@@ -151,9 +154,9 @@ impl<B: Allocator + Copy> SearchTarget for Changed<'_, B> {
     ghost use Rattle.a2_machine.specs.State.{world_of_state};
     ghost use Rattle.a2_debugger.specs.Stops.{is_changed_in as is_changed_in_of};
 
-    ghost is_found_in = { λ changed world. is_changed_in_of (world_of_state changed.before.now.state) world changed.span };
+    ghost is_found_in = { λ changed world. is_changed_in_of (world_of_state changed.before.now.state) world changed.watch };
 
     fn is_found_in<A: Allocator + Copy>(&self, machine: &Machine<A>) -> bool {
-        is_changed_in(&self.span, ram_of(self.before), ram_of(machine))
+        is_watch_changed(&self.watch, &Moment::of(self.before), &Moment::of(machine))
     }
 }

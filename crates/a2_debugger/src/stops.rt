@@ -1,4 +1,4 @@
-//! Stops of a run: breakpoints with their conditions, and watched bytes.
+//! Stops of a run: breakpoints with their conditions, and what is watched: bytes, registers and flags.
 
 ghost use Rattle.std.specs.Prelude.{◌≡◌, ◌||◌, slice_get};
 ghost use Rattle.std.specs.List.{list_any};
@@ -8,6 +8,7 @@ ghost use Rattle.a2_debugger.specs.Alerts.{moment_of_declared, moment_after};
 ghost use Rattle.a2_debugger.specs.Stops as stop;
 
 use a2_burst::StepView;
+use a2_effect::Status;
 use a2_machine::Machine;
 use a2_symbols::Span;
 use std::alloc::Allocator;
@@ -25,11 +26,24 @@ pub enum Register {
     P,
 }
 
+/// A flag of P.
+#[derive(Clone, Copy)]
+pub enum Flag {
+    N,
+    V,
+    D,
+    I,
+    Z,
+    C,
+}
+
 /// The subject of a condition.
 #[derive(Clone, Copy)]
 pub enum Subject {
     /// The value of a register.
     InRegister(Register),
+    /// The value of a flag, 0 or 1.
+    InFlag(Flag),
     /// The byte at an address.
     InByte(u16),
 }
@@ -57,6 +71,24 @@ pub struct Break {
     pub address: u16,
     /// If present, only worlds in which it holds are stops.
     pub condition: Option<Condition>,
+}
+
+/// What is watched.
+#[derive(Clone, Copy)]
+pub enum Watch {
+    /// A register.
+    OfRegister(Register),
+    /// A flag.
+    OfFlag(Flag),
+    /// The bytes from one address to another.
+    OfBytes(Span),
+}
+
+// (an `ArrayVec` needs it)
+impl Default for Watch {
+    fn default() -> Watch {
+        Watch::OfBytes(Span::default())
+    }
 }
 
 /// The state that decides a stop: the registers as bytes, and RAM.
@@ -134,12 +166,28 @@ pub fn in_register(register: Register, moment: &Moment) -> u8
     }
 }
 
-// The value of a condition's subject, if there is such a byte.
-fn value_of(subject: Subject, moment: &Moment) -> Option<u8>
+/// Returns the value of a flag, 0 or 1.
+pub fn in_flag(flag: Flag, moment: &Moment) -> u8
+    ensures { result ≡ stop.in_flag flag (moment_of_declared moment.now) }
+{
+    let flags = Status::pulled(moment.p);
+    u8::from(match flag {
+        Flag::N => flags.negative(),
+        Flag::V => flags.overflow(),
+        Flag::D => flags.decimal(),
+        Flag::I => flags.interrupt(),
+        Flag::Z => flags.zero(),
+        Flag::C => flags.carry(),
+    })
+}
+
+/// Returns the value of a condition's subject, if there is such a byte.
+pub fn value_of(subject: Subject, moment: &Moment) -> Option<u8>
     ensures { result ≡ stop.value_of subject (moment_of_declared moment.now) }
 {
     match subject {
         Subject::InRegister(register) => Some(in_register(register, moment)),
+        Subject::InFlag(flag) => Some(in_flag(flag, moment)),
         Subject::InByte(address) => byte_at(moment.ram, address),
     }
 }
@@ -170,8 +218,8 @@ fn holds(condition: Option<Condition>, moment: &Moment) -> bool
     }
 }
 
-// Whether PC is at a breakpoint and its condition holds.
-fn is_hit(place: &Break, moment: &Moment) -> bool
+/// Returns whether PC is at a breakpoint and its condition holds.
+pub fn is_hit(place: &Break, moment: &Moment) -> bool
     ensures { result ≡ stop.is_hit (moment_of_declared moment.now) place.now }
 {
     place.address == moment.pc && holds(place.condition, moment)
@@ -213,21 +261,82 @@ pub fn is_at_break(breaks: &[Break], moment: &Moment) -> bool
     breaks.iter().any(|place| is_hit(place, moment))
 }
 
-/// Returns whether one of the watched bytes of RAM has changed.
-pub fn are_changed(watches: &[Span], before: &[u8], ram: &[u8]) -> bool
-    ensures { result ≡ list_any (stop.is_span_changed (slice_get before.now) (slice_get ram.now)) watches.now }
+/// Returns whether a watched register or flag, or one of the watched bytes of RAM, has changed.
+pub fn is_watch_changed(watch: &Watch, before: &Moment, now: &Moment) -> bool
+    ensures { result ≡ stop.is_watch_changed (moment_of_declared before.now) (moment_of_declared now.now) watch.now }
 {
-    watches.iter().any(|span| is_changed_in(span, before, ram))
+    match *watch {
+        Watch::OfRegister(register) => {
+            in_register(register, now) != in_register(register, before)
+        }
+        Watch::OfFlag(flag) => in_flag(flag, now) != in_flag(flag, before),
+        Watch::OfBytes(span) => is_changed_in(&span, before.ram, now.ram),
+    }
+}
+
+/// Returns whether one of these has changed.
+pub fn are_changed(watches: &[Watch], before: &Moment, now: &Moment) -> bool
+    ensures { result ≡ list_any (stop.is_watch_changed (moment_of_declared before.now) (moment_of_declared now.now)) watches.now }
+{
+    watches
+        .iter()
+        .any(|watch| is_watch_changed(watch, before, now))
 }
 
 /// Returns the span if it is small enough to be watched, which means at most 256 bytes.
-pub fn watchable(span: Option<Span>) -> Option<Span>
+pub fn watchable(span: Span) -> Option<Watch>
     ensures { result ≡ stop.watchable span }
 {
-    let span = span?;
     if u32::from(span.last) < u32::from(span.first) + u32::from(MOST_WATCHED) {
-        Some(span)
+        Some(Watch::OfBytes(span))
     } else {
         None
+    }
+}
+
+// Whether both are the same register.
+fn is_same_register(one: Register, other: Register) -> bool
+    ensures { result ≡ stop.is_same_register one other }
+{
+    match one {
+        Register::A => matches!(other, Register::A),
+        Register::X => matches!(other, Register::X),
+        Register::Y => matches!(other, Register::Y),
+        Register::S => matches!(other, Register::S),
+        Register::P => matches!(other, Register::P),
+    }
+}
+
+// Whether both are the same flag.
+fn is_same_flag(one: Flag, other: Flag) -> bool
+    ensures { result ≡ stop.is_same_flag one other }
+{
+    match one {
+        Flag::N => matches!(other, Flag::N),
+        Flag::V => matches!(other, Flag::V),
+        Flag::D => matches!(other, Flag::D),
+        Flag::I => matches!(other, Flag::I),
+        Flag::Z => matches!(other, Flag::Z),
+        Flag::C => matches!(other, Flag::C),
+    }
+}
+
+/// Returns whether both watch the same.
+pub fn is_same_watch(one: Watch, other: &Watch) -> bool
+    ensures { result ≡ stop.is_same_watch one other.now }
+{
+    match one {
+        Watch::OfRegister(one) => match *other {
+            Watch::OfRegister(other) => is_same_register(one, other),
+            _ => false,
+        },
+        Watch::OfFlag(one) => match *other {
+            Watch::OfFlag(other) => is_same_flag(one, other),
+            _ => false,
+        },
+        Watch::OfBytes(one) => match *other {
+            Watch::OfBytes(other) => other.first == one.first && other.last == one.last,
+            _ => false,
+        },
     }
 }

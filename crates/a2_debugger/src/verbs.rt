@@ -21,6 +21,7 @@ pub enum Verb {
     Who,
     Break,
     Clear,
+    Unwatch,
     Keys,
     Where,
     Regs,
@@ -29,17 +30,18 @@ pub enum Verb {
     Screen,
     List,
     Info,
+    Stack,
     Help,
 }
 
 // The greatest length of a command word.
-const LONGEST: usize = 6;
+const LONGEST: usize = 7;
 
 // A word in capitals and the verb it stands for.
 type Row = (&'static [u8], Verb);
 
 // The full words of the verbs, followed by the letters that abbreviate some of them.
-static WORDS: [Row; 34] = [
+static WORDS: [Row; 36] = [
     (b"STEP", Verb::Step),
     (b"NEXT", Verb::Next),
     (b"OUT", Verb::Out),
@@ -52,6 +54,7 @@ static WORDS: [Row; 34] = [
     (b"WHO", Verb::Who),
     (b"BREAK", Verb::Break),
     (b"CLEAR", Verb::Clear),
+    (b"UNWATCH", Verb::Unwatch),
     (b"KEYS", Verb::Keys),
     (b"WHERE", Verb::Where),
     (b"REGS", Verb::Regs),
@@ -60,6 +63,7 @@ static WORDS: [Row; 34] = [
     (b"SCREEN", Verb::Screen),
     (b"LIST", Verb::List),
     (b"INFO", Verb::Info),
+    (b"STACK", Verb::Stack),
     (b"HELP", Verb::Help),
     (b"S", Verb::Step),
     (b"N", Verb::Next),

@@ -22,7 +22,7 @@ h1{font-size:1.15rem;margin:0;display:inline;overflow-wrap:anywhere}
 #pos output{font-size:1.1em;font-weight:700}
 h2{font-size:.8rem;letter-spacing:.03em;margin:0 0 6px;color:var(--dim);font-weight:600}
 section{background:var(--card);border:1px solid var(--line);border-radius:8px;padding:10px 12px;min-width:0}
-main{display:grid;gap:12px;padding:0 12px;align-items:start;grid-template-columns:minmax(0,1fr) minmax(0,35rem);grid-template-areas:"src say" "src scr" "src cpu" "src mem";grid-template-rows:auto auto auto 1fr}
+main{display:grid;gap:12px;padding:0 12px;align-items:start;grid-template-columns:minmax(0,1fr) min(35rem,45%);grid-template-areas:"src say" "src scr" "src cpu" "src mem";grid-template-rows:auto auto auto 1fr}
 #says{grid-area:say}#src{grid-area:src}#scrs{grid-area:scr}#cpu{grid-area:cpu}#mems{grid-area:mem}
 .row{display:flex;flex-wrap:wrap;gap:6px;align-items:center}
 button,select,input[type=text]{font:inherit;font-size:.94rem;color:var(--fg);background:var(--card);border:1px solid var(--edge);border-radius:6px;padding:3px 10px;min-height:34px}
@@ -34,6 +34,7 @@ a{color:var(--acc)}
 #at{width:100%;accent-color:var(--acc);margin:0;height:24px;display:block}
 #say{min-height:4.4em;font-size:1.08rem}
 #say p{margin:0 0 .3em}
+#strip{display:none;margin:.2em 0 0;font-size:.94rem}
 #say code{font-weight:700}
 .stop{border-left:4px solid var(--chg);padding-left:8px;color:var(--chg);font-weight:600}
 .stop.ok{border-color:var(--ok);color:var(--ok)}
@@ -83,11 +84,12 @@ canvas{display:block;width:100%;image-rendering:pixelated;cursor:crosshair}
 footer{color:var(--dim);font-size:.87rem;padding:12px}
 kbd{border:1px solid var(--edge);border-radius:4px;padding:0 5px;font:.85em ui-monospace,monospace}
 @media (min-width:1700px){main{grid-template-columns:minmax(0,1fr) minmax(0,31rem) 37rem;grid-template-areas:"src say say" "src scr mem" "src cpu mem";grid-template-rows:auto auto 1fr}body{font-size:17px}#mem{font-size:.8rem}}
-@media (max-width:900px){main{grid-template-columns:minmax(0,1fr);grid-template-areas:"say" "scr" "src" "cpu" "mem";grid-template-rows:none;padding:0 6px}header{padding:6px 8px;position:static;border:0;margin:0;display:block}#bar{flex-wrap:nowrap;overflow-x:auto;scrollbar-width:none;white-space:nowrap;margin-top:6px;padding:3px}#nav{display:block}
+@media (max-width:900px){#src :is(td,th):nth-child(4){display:none}}
+@media (max-width:640px){main{grid-template-columns:minmax(0,1fr);grid-template-areas:"say" "scr" "src" "cpu" "mem";grid-template-rows:none;padding:0 6px}header{padding:6px 8px;position:static;border:0;margin:0;display:block}#bar{flex-wrap:nowrap;overflow-x:auto;scrollbar-width:none;white-space:nowrap;margin-top:6px;padding:3px}#nav{display:block}
 html{--pb:110px}#nav{position:fixed;bottom:0;left:0;right:0;z-index:6;background:var(--bg);border-top:1px solid var(--line);padding:2px 8px 8px}body{padding-bottom:104px}#nav .row{justify-content:space-between;flex-wrap:nowrap;gap:4px}#nav button{min-height:42px;padding:3px 8px}
-#src{max-height:44vh;position:relative;top:0}#src :is(td,th):nth-child(4){display:none}#tv{max-width:none;padding:4px}#say{min-height:6.2em}.regs{gap:4px}.regs button{padding:3px 7px}section{padding:8px}#mem{width:100%;table-layout:fixed;font-size:min(.8rem,2.85vw)}#mem tr>:first-child{width:4.6ch}#mem th{padding:0}#mem td{padding:2px 0;width:2.2ch;border-width:0 1px}#mem th:last-child{display:none}}
+#src{max-height:44vh;position:relative;top:0}#tv{max-width:calc(40vh*1.46);padding:4px}#strip{display:block}#say{min-height:6.2em}.regs{gap:4px}.regs button{padding:3px 7px}section{padding:8px}#mem{width:100%;table-layout:fixed;font-size:min(.8rem,2.85vw)}#mem tr>:first-child{width:4.6ch}#mem th{padding:0}#mem td{padding:2px 0;width:2.2ch;border-width:0 1px}#mem th:last-child{display:none}}
 @media (max-width:560px){#src :is(td,th):nth-child(3){display:none}#src td{padding:0 3px}#src td.h{min-width:3em}#src td:nth-child(2){min-width:3.2em}.wide{display:none}}
-@media print{:root{--bg:#fff;--fg:#000;--dim:#444}header{position:static}#nav,#bar,#chap,#memc,#whot,footer,.key,#at,.noprint{display:none!important}body{font-size:11px;padding:0}#src{position:static;max-height:none;overflow:visible}main{display:block;padding:0}main section{border:0;padding:4px 0;break-inside:avoid}#src{break-inside:auto!important}#tv{width:300px;margin:0}#say{min-height:0}.h,.now td,.was td,#tv,#mem .ch{print-color-adjust:exact;}}
+@media print{:root{--bg:#fff;--fg:#000;--dim:#444}header{position:static}#nav,#bar,#chap,#memc,#whot,footer,.key,#at,.noprint{display:none!important}body{font-size:11px;padding:0}@page{margin:12mm}#tv.text{background:#fff;border:1px solid #000}#tv.text canvas{filter:invert(1)}#strip{display:none!important}#src{position:static;max-height:none;overflow:visible}main{display:block;padding:0}main section{border:0;padding:4px 0;break-inside:avoid}#src{break-inside:auto!important}#tv{width:300px;margin:0}#say{min-height:0}.h,.now td,.was td,#tv,#mem .ch{print-color-adjust:exact;}}
 </style>
 </head>
 <body>
@@ -97,7 +99,7 @@ html{--pb:110px}#nav{position:fixed;bottom:0;left:0;right:0;z-index:6;background
 <nav id=nav aria-label="Move through the run"><input type=range id=at min=0 value=0 aria-label="Step of the run"><div class=row><button id=home title=Home>Start</button><button id=b1 class=big title="Left arrow">&#x25C0; Back</button><button id=play title=Space>&#x25B6; Play</button><button id=f1 class=big title="Right arrow">Step &#x25B6;</button><button id=end title=End>End</button></div></nav>
 </header>
 <main>
-<section id=says aria-label="What happens"><div class=row id=chap hidden><button id=c0 title="Key C">&#x25C0; Chapter</button><button id=c1 class=big title="Key c">Chapter &#x25B6;</button><select id=chs aria-label=Chapter></select></div><div id=say aria-live=polite></div></section>
+<section id=says aria-label="What happens"><div class=row id=chap hidden><button id=c0 title="Key C">&#x25C0; Chapter</button><button id=c1 class=big title="Key c">Chapter &#x25B6;</button><select id=chs aria-label=Chapter></select></div><div id=say aria-live=polite></div><p id=strip class=m aria-hidden=true></p></section>
 <section id=src tabindex=0 aria-label="Program. Up and Down move between instructions. Enter sets or removes a breakpoint."><h2>Program <span class=key style="background:var(--now)">next</span> <span class=key style="background:var(--last)">just executed</span> <span class=key style="background:rgba(var(--heat),.4)">how often</span></h2><table><thead><tr><th scope=col>times<th scope=col>line<th scope=col>address<th scope=col>bytes<th scope=col>source</thead><tbody id=lines></tbody></table></section>
 <section id=scrs><h2 id=scrh>Screen</h2><div id=tv><div><canvas id=scr width=560 height=384 role=img aria-label=Screen aria-describedby=scrt></canvas><canvas id=ov width=1120 height=768 aria-hidden=true></canvas></div></div><pre id=scrt class=sr></pre></section>
 <section id=cpu><h2>Processor <span class=noprint>(click to see what changed it)</span></h2><div class=regs id=regs></div><div id=flags class=regs style="margin-top:6px"></div><p class=m id=stk></p></section>
@@ -211,33 +213,41 @@ const STOP={"RETURNED":"the program returned",
 "LIMIT":"the limit of steps was reached; raise it with --limit"};
 const lineOf=k=>{while(k>=0&&!(PC[k]in LINE))k--;return k<0?0:LINE[PC[k]]};
 const place=p=>svc[p]?svc[p]:p in LINE?"line "+LINE[p]:p==0xff69?"the end of the run":hx(p,4);
-const nm=a=>hx(a,4)+(NAME[a]&&a>9?" ("+NAME[a]+")":"");
+// an address with its name; one up to 9 only by a name that line l has, since it may be a number
+const named=(t,n)=>t.split(/[^\w]+/).includes(n),nm=(a,l)=>{const n=l&&F.names.find(n=>n[1]==a&&named(code[l-1],n[0]));return hx(a,4)+(n?" ("+n[0]+")":NAME[a]&&a>9?" ("+NAME[a]+")":"")};
 const step=k=>svc[PC[k-1]]?svc[PC[k-1]]+", called from line "+lineOf(k-1):place(PC[k-1]);
 function area(a,o,y,x,was){const l=o&31,w=a=>was(a)|was(a+1&65535)<<8,z=a=>was(a)|was(a+1&255)<<8,b=was(a+1);
 if(o==0x4c||o==0x6c)return-1;
 return l>3&&l<7?b:l>19&&l<23?b+(o==0x96||o==0xb6?y:x)&255:l>11&&l<15?w(a+1):l>27&&l<31?w(a+1)+(o==0xbe?y:x)&65535:l==25?w(a+1)+y&65535:l==1?z(b+x&255):l==17?z(b)+y&65535:-1}
-function words(k){const p=PC[k-1],o=[],v=r=>REG[r][k],u=r=>REG[r][k-1],was=a=>{for(let c=FIRST[k];c<FIRST[k+1];c++)if(ADR[c]==a)return OLD[c];return a<RAM?ram[a]:0};
-let ea=-1,op=-1,stk=0;
+// the register that an instruction sets, and the one that it compares
+const sets=op=>(op&3)==1?(op>>5==4||op>>5==6?"":"a"):(op&0x9f)==10||op==0x8a||op==0x98||op==0x68?"a":(op&3)==2&&op>>5==5||op==0xe8||op==0xca?"x":(op&3)==0&&op>>5==5&&(op&31)!=16&&(op&31)!=24||op==0xc8||op==0x88?"y":"";
+const compared=op=>op>>5==6&&(op&3)==1?"a":[0xe0,0xe4,0xec].includes(op)?"x":[0xc0,0xc4,0xcc].includes(op)?"y":"";
+function words(k){const p=PC[k-1],o=[],ln=lineOf(k-1),v=r=>REG[r][k],u=r=>REG[r][k-1],was=a=>{for(let c=FIRST[k];c<FIRST[k+1];c++)if(ADR[c]==a)return OLD[c];return a<RAM?ram[a]:0};
+let ea=-1,op=-1,stk=0,sum="";
 if(svc[p])o.push(SAY[svc[p]]||"");else{op=was(p);ea=area(p,op,u("y"),u("x"),was);
+const given=was((op&31)==9||(op&31)==0?p+1:ea),carry=u("p")&1;
+if((op&3)==1&&op>>5==3)sum=" = "+hx(u("a"))+" + "+hx(given)+" + carry "+carry;
+if((op&3)==1&&op>>5==7)sum=" = "+hx(u("a"))+" - "+hx(given)+" - borrow "+(1-carry);
 const to=esc(place(PC[k]))+(NAME[PC[k]]&&!svc[PC[k]]?" ("+esc(NAME[PC[k]])+")":"");
-if((op&31)==16)o.push(PC[k]==p+2?"the branch is not taken":"the branch is taken, to "+to);
+if((op&31)==16){const n=op>>6;o.push("NVCZ"[n]+" is "+(u("p")>>[7,6,0,1][n]&1)+", so the branch is "+(PC[k]==p+2?"not taken":"taken, to "+to))}
 else if(op==0x4c||op==0x6c)o.push("jumps to "+to);
 else if(op==0x20){o.push("calls "+to+"; pushes "+hx(p+2,4)+", the address for the return");stk=1}
 else if(op==0x60||op==0x40){o.push(PC[k]==0xff69?"returns; this ends the run":"returns to "+to);stk=1}
 else if(op==0x48||op==8){o.push("pushes "+(op==8?"the flags":"A ("+hx(u("a"))+")")+" onto the stack");stk=1}
 else if(op==0x68||op==0x28){o.push("pulls "+hx(was(256+v("s")))+" from the stack");stk=1}
-if(ea>=0&&op>>5!=4)o.push("reads "+esc(nm(ea))+(ea<RAM?", which holds "+hx(was(ea)):""))}
-for(const r of"axys")if(u(r)!=v(r)&&!(r=="s"&&stk))o.push(r.toUpperCase()+" becomes "+hx(v(r)));
+if(ea>=0&&op>>5!=4)o.push("reads "+esc(nm(ea,ln))+(ea<RAM?", which holds "+hx(was(ea)):""));
+const c=compared(op);if(c){const r=u(c);o.push(c.toUpperCase()+" is compared: "+hx(r)+" "+esc(r<given?"<":r>given?">":"=")+" "+hx(given))}}
+for(const r of"axys"){const t=hx(v(r))+(r=="a"?sum:"");if(u(r)!=v(r)){if(r!="s"||!stk)o.push(r.toUpperCase()+" becomes "+t)}else if(op>=0&&r==sets(op))o.push(r.toUpperCase()+" stays "+t)}
 const c=FIRST[k],e=FIRST[k+1];
-if(!stk){for(let i=c;i<min(e,c+3);i++)o.push(esc(nm(ADR[i]))+" becomes "+hx(NEW[i])+" (was "+hx(OLD[i])+")");
+if(!stk){for(let i=c;i<min(e,c+3);i++)o.push(esc(nm(ADR[i],ln))+" becomes "+hx(NEW[i])+" (was "+hx(OLD[i])+")");
 if(e>c+3)o.push("and "+(e-c-3)+" more bytes change");
-if(ea>=0&&op>>5==4&&c==e)o.push("stores to "+esc(nm(ea))+(ea<RAM?", which already held that byte":""))}
+if(ea>=0&&op>>5==4&&c==e)o.push("stores to "+esc(nm(ea,ln))+(ea<RAM?", which already held that byte":""))}
 const d=u("p")^v("p"),f=[..."NV..DIZC"].map((n,i)=>d>>7-i&1?n+(v("p")>>7-i&1?" set":" cleared"):"").filter(x=>x);
 if(f.length)o.push(f.join(", "));
 if(KEY[k]>KEY[k-1])o.push("takes "+esc(keyname(KEY[k-1],KEY[k])));
 const n=COME[k]-COME[k-1];if(n)o.push(esc(keyname(COME[k-1],COME[k]))+(n>1?" are":" is")+" typed");
 if(SW[k]!=SW[k-1])o.push("the screen now shows "+scrname(SW[k]));
-return o.filter(x=>x).join("; ")||"only PC changes"}
+return o.filter(x=>x).join("; ")||({24:"C stays 0",56:"C stays 1",88:"I stays 0",120:"I stays 1",184:"V stays 0",216:"D stays 0",248:"D stays 1"})[op]||"only PC changes"}
 function keyname(i,j){let o=[];for(;i<j;i++){const v=X(F.keys.substr(2*i,2));o.push(v==13?"RETURN":v==32?"blank":v<32?"Ctrl-"+chr(v+64):chr(v))}return(o.length>1?"keys ":"key ")+o.join(" ")}
 const scrname=s=>(s&1?"text":(s&8?"hi-res":"lo-res")+(s&2?" with four rows of text":""))+", page "+(s&4?2:1);
 // ---- the screen
@@ -264,7 +274,7 @@ if(ch.has(a)&&ch.size<400&&(tx||!hires))box("#ffcf33",2*x,2*y);
 if(a==sel&&!selr)box("#4fc3ff",2*x,2*y)}
 o.push(t)}
 if(hires&&!text){ov.fillStyle="#e8f2e8";ov.font="40px monospace";ov.fillText("HI-RES IS NOT SHOWN",330,340)}
-txt("scrh","Screen: "+scrname(s));
+txt("scrh","Screen: "+scrname(s));$("tv").classList.toggle("text",!!text);
 txt("scrt",o.join("\n"));
 clearTimeout(draw.t);if(fl&&!still.matches)draw.t=setTimeout(()=>{flash=1-flash;draw()},270)}
 cv.onclick=e=>{const b=cv.getBoundingClientRect(),q=(v,n)=>max(0,min(n-1,floor(v*n)));
@@ -314,9 +324,11 @@ for(const q of hot){const v=hits[q[0]];if(v!=q[2]){q[2]=v;q[1].textContent=v||""
 const st=at?PC[at-1]:0,ci=chap(),c=CH[ci];$("chs").selectedIndex=ci;
 $("say").innerHTML=(c?'<p class="chap"><b>'+(ci+1)+" of "+CH.length+"</b> "+CH.filter(d=>d.k==c.k).map(d=>esc(d.t)).join("<br>")+"</p>":"")+"<p>"+(at?(svc[st]?"<code>"+svc[st]+"</code>, a service called from line "+wl:st in LINE?"Line "+wl+" <code>"+esc(code[wl-1])+"</code>":"Instruction at <code>"+hx(st,4)+"</code>")+": "+words(at)+".":B?"<b>The film begins here,</b> "+B+" steps into the run.":"<b>The start.</b> No step has been executed yet.")+"</p>"+
 (at==N?'<p class="stop'+(F.stop=="RETURNED"?" ok":"")+'">The run stops at '+(ln?"line "+ln+" <code>"+esc(code[ln-1])+"</code>":hx(PC[at],4)+(svc[PC[at]]?", the service <code>"+svc[PC[at]]+"</code>":""))+", "+F.stop+": "+esc(STOP[F.stop]||"")+".</p>":"<p>Next: "+(svc[PC[at]]?"the service <code>"+svc[PC[at]]+"</code>":ln?"line "+ln+" <code>"+esc(code[ln-1])+"</code>":hx(PC[at],4))+".</p>");
-let r="";
-for(const n of["A","X","Y","S","P","PC"]){const c=n=="PC"?PC:REG[n.toLowerCase()],v=c[at];r+='<button data-r="'+n+'"'+(at&&v!=c[at-1]&&n!="PC"?' class="ch"':"")+' aria-label="'+n+" "+h(v,2)+'"><small>'+n+("AXY".includes(n)?" = "+v:"")+"</small><b>"+h(v,n=="PC"?4:2)+"</b></button>"}
+let r="",strip="";
+for(const n of["A","X","Y","S","P","PC"]){const c=n=="PC"?PC:REG[n.toLowerCase()],v=c[at];if("AXY".includes(n))strip+=n+" "+h(v,2)+" ";
+r+='<button data-r="'+n+'"'+("AXY".includes(n)?' title="%'+v.toString(2).padStart(8,0)+(v>127?"; as a signed number "+(v-256):"")+(v>159?"; the character "+esc(chr(gl(v))):"")+'"':"")+(at&&v!=c[at-1]&&n!="PC"?' class="ch"':"")+' aria-label="'+n+" "+h(v,2)+'"><small>'+n+("AXY".includes(n)?" = "+v:"")+"</small><b>"+h(v,n=="PC"?4:2)+"</b></button>"}
 $("regs").innerHTML=r;
+txt("strip",strip+[..."NV..DIZC"].filter((n,i)=>n!="."&&REG.p[at]>>7-i&1).join(" "));
 $("flags").innerHTML=[..."NVDIZC"].map((n,i)=>{const b=7-"NV..DIZC".indexOf(n),p=REG.p[at],c=at&&(p^REG.p[at-1])>>b&1;return"<span"+(c?' class="ch"':"")+' title="'+["negative","overflow","decimal","interrupts disabled","zero","carry"][i]+'"><small>'+n+"</small><b>"+(p>>b&1)+"</b></span>"}).join("");
 let k="",p=REG.s[at]+1;for(let i=p;i<256&&i<p+16;i++)k+=" "+h(ram[256+i],2);
 txt("stk","Stack"+(p<256?" from "+hx(256+p,4)+":"+k+(p<240?" \u2026":""):": empty")+(F.keys?" \u00B7 keys taken: "+KEY[at]+" of "+COME[at]:""));
@@ -349,7 +361,7 @@ document.onkeydown=e=>{const t=e.target;if(e.ctrlKey||e.altKey||e.metaKey||t.tag
 const d=e.shiftKey?10:1,K={ArrowRight:()=>go(at+d),ArrowLeft:()=>go(at-d),Home:()=>go(0),End:()=>go(N),b:()=>brk(1),B:()=>brk(-1),o:()=>over(1),O:()=>over(-1),x:()=>mark(LINE[PC[at]]),c:()=>walk(1),C:()=>walk(-1),w:who,n:next,r:()=>{if(ret>=0)jump(ret)},"/":()=>{$("goto").focus();$("goto").select()}};
 if(e.key==" "&&t.tagName!="BUTTON"&&t.type!="checkbox")K[" "]=()=>play(!timer);
 if(K[e.key]){if(timer&&e.key!=" ")play(0);K[e.key]();e.preventDefault()}};
-const fit=()=>T_.documentElement.style.setProperty("--hh",(innerWidth>900?$("hd").offsetHeight+12:0)+"px");onresize=fit;
+const fit=()=>T_.documentElement.style.setProperty("--hh",(innerWidth>640?$("hd").offsetHeight+12:0)+"px");onresize=fit;
 document.title=F.title+": a run";txt("title",F.title);txt("of",B+N);fit();
 onhashchange=unhash;if(!unhash())go(0);
 </script>

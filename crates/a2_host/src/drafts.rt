@@ -57,6 +57,8 @@ impl<'a> HostDesk<'a> {
 pub struct HostDraft {
     lines: BufWriter<File>,
     name: String,
+    /// The path of the file that it is to replace. If that was named by a link, this is the file at the end of the link.
+    target: String,
     failed: u64,
 }
 
@@ -81,6 +83,21 @@ fn is_not_a_file(rt: &HostRuntime, name: &str) -> bool {
     match fs::metadata(rt, name) {
         Ok(found) => !found.is_file(),
         Err(_) => false,
+    }
+}
+
+// Returns the path of the file with this name, without links in it, or the name itself if there is no such file.
+fn target_of(rt: &HostRuntime, name: &str) -> Result<String, WriteFault> {
+    if let Ok(path) = fs::canonicalize(rt, name) {
+        return Ok(path.into_string());
+    }
+    String::from_str(rt.alloc(), name).map_err(|_| WriteFault)
+}
+
+// Gives a draft the permissions of the file that it is to replace, if there is one. If that is not possible, it keeps its own.
+fn keep_permissions(rt: &HostRuntime, target: &str, draft: &File) {
+    if let Ok(found) = fs::metadata(rt, target) {
+        let _ = draft.set_permissions(found.permissions());
     }
 }
 
@@ -111,11 +128,14 @@ impl Desk for HostDesk<'_> {
         if is_not_a_file(self.rt, name) {
             return Err(WriteFault);
         }
-        let (name, file) = beside(self.rt, name)?;
+        let target = target_of(self.rt, name)?;
+        let (name, file) = beside(self.rt, target.as_str())?;
+        keep_permissions(self.rt, target.as_str(), &file);
         match BufWriter::new(self.rt.alloc(), file) {
             Ok(lines) => Ok(HostDraft {
                 lines,
                 name,
+                target,
                 failed: 0,
             }),
             Err(_) => {
@@ -125,11 +145,11 @@ impl Desk for HostDesk<'_> {
         }
     }
 
-    fn finish(&mut self, name: &str, draft: HostDraft) -> Result<(), WriteFault> {
+    fn finish(&mut self, _name: &str, draft: HostDraft) -> Result<(), WriteFault> {
         let mut lines = draft.lines;
         let is_written = lines.flush().is_ok();
         discard_buffer(lines);
-        if is_written && fs::rename(self.rt, draft.name.as_str(), name).is_ok() {
+        if is_written && fs::rename(self.rt, draft.name.as_str(), draft.target.as_str()).is_ok() {
             return Ok(());
         }
         let _ = fs::remove_file(self.rt, draft.name.as_str());

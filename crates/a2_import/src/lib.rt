@@ -25,4 +25,5 @@ pub use dialect::{Dialect, Old};
 pub use fault::{ImportFault, ListingFault};
 pub use import::{Imported, Note, NoteKind, import_source};
 pub use kind::guess;
-pub use listing::import_listing;
+pub use listing::{assembles_to, import_listing};
+pub use object::object_lines;

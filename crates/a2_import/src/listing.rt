@@ -64,8 +64,13 @@ fn draft_of<A: Allocator + Copy>(alloc: A, object: &[u8]) -> Result<Draft<A>, Al
     Ok(draft)
 }
 
-// Whether a text is a source that assembles to the bytes of an image, or the error if it is not a valid source.
-fn says<A: Allocator + Copy>(alloc: A, text: &[u8], image: &Image<A>) -> Result<bool, Fault>
+/// Returns whether a text is a source that assembles to the bytes of an image. Fails with its first error if it is not a valid source, or
+/// if memory runs out.
+pub fn assembles_to<A: Allocator + Copy>(
+    alloc: A,
+    text: &[u8],
+    image: &Image<A>,
+) -> Result<bool, Fault>
     ensures { IfOk result (λ is. is ≡ true → AssemblesTo (held image.now) text.now) }
 {
     let source = parse(alloc, text)?;
@@ -99,7 +104,7 @@ pub fn import_listing<A: Allocator + Copy>(
         Err(fault) => return Err(ListingFault::Row(fault)),
     };
     let draft = draft_of(alloc, object.as_slice())?;
-    match says(alloc, draft.text(), &image) {
+    match assembles_to(alloc, draft.text(), &image) {
         Ok(true) => Ok(draft.into_text()),
         Ok(false) => Err(ListingFault::Unlike),
         Err(Fault::Memory) => Err(ListingFault::Memory),

@@ -70,10 +70,7 @@ fn put_lines<A: Allocator>(object: &mut Vec<u8, A>, lines: &[&[u8]]) -> Result<(
 }
 
 /// Returns the object lines of a listing, one for each line.
-pub(crate) fn object_lines<A: Allocator + Copy>(
-    alloc: A,
-    text: &[u8],
-) -> Result<Vec<u8, A>, AllocError>
+pub fn object_lines<A: Allocator + Copy>(alloc: A, text: &[u8]) -> Result<Vec<u8, A>, AllocError>
     ensures { IfOk result (λ object. object.items ≡ listing.object_lines text.now) }
 {
     let lines = cut(alloc, text)?;

@@ -1094,8 +1094,12 @@ or flashing.
 WANT: the cases of a2lab test, in lines of these forms
   case NAME: begins a case
   keys K: these keys are waiting at the start, spelt as after --keys
+  keys-at N:K: these keys are typed after N steps, as by --keys-at. Each such
+    line counts
+  replay T: the keys of the recorded session T are typed, each after its steps
+  free: the run is not guarded, as by --free
   limit N: the run has at most N steps, up to 100,000,000; without it
-    1,000,000
+    1,000,000, or as many as the session that replay names
   call NAME A=05 X=07 RESULT=00: the routine NAME runs instead of the program.
     Before it, these registers A, X and Y and these places hold these bytes. A
     place is a name, a name and a number such as RESULT+1, or $320. The case
@@ -1106,6 +1110,10 @@ WANT: the cases of a2lab test, in lines of these forms
   screen row 0 = "TEXT": the row of this number, 0 to 23 from the top, is this
     text. Blanks at its end do not count.
   screen holds "TEXT": some row contains this text
+  screen row 0 is inverse "TEXT": the row of this number contains this text,
+    and each of its characters is shown inverse; normal and flashing likewise
+  screen is normal: each character of the screen is shown normal; inverse and
+    flashing likewise
   mem $320 = A9 01: memory holds these bytes at the end, at an address or a
     name of the source; + cannot follow here
   reg A=E9 X=00: these registers of A, X, Y, P and S hold these bytes at the
@@ -1427,8 +1435,8 @@ An addressing mode is how the operand says what is worked on:
   a label, after a branch: relative; where to continue
   nothing: implied; what the mnemonic names
 More: docs/manual/instructions.md
-~IMMEDIATE,#
-Immediate, #
+~IMMEDIATE,HASH,#
+Immediate, hash, #
 # means the number itself. Without #, the number is an address: LDA #5 loads
 5, but LDA 5 loads the byte at the address 5.
      LDA #5

@@ -117,6 +117,13 @@ impl<A: Allocator + Copy> Player<A> {
         self.log.as_slice()
     }
 
+    /// Returns how many keys wait, 0 to 4,096.
+    pub fn waiting(&self) -> usize
+        ensures { result ≡ length self.now.machine.state.bus.devices.keys }
+    {
+        self.machine.space().waiting().len()
+    }
+
     /// Types a key, 0 to 127, if fewer than 4,096 wait, and returns whether it did. Fails only if memory is short. If
     /// the key is not typed, nothing changes.
     pub fn type_key(&mut self, key: u8) -> Result<bool, AllocError>

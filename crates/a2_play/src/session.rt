@@ -20,6 +20,12 @@ use std::marker::Model;
 /// The shortest time between two draws, and between two checks for keys at `Pace::Max`: a thirtieth of a second.
 const FRAME: u64 = 33_333;
 
+/// The time after which everything is drawn again, for a terminal whose size changed, or on which something else wrote.
+const REFRESH: u64 = 2_000_000;
+
+/// The number of waiting keys from which on only RETURN is typed: GETLN takes no key before it.
+const KEYS_BEFORE_RETURN: usize = 4_095;
+
 /// The time for which flashing characters stay the same.
 const BLINK: u64 = 500_000;
 
@@ -65,9 +71,10 @@ pub struct Session<'a> {
     room: TerminalSize,
     /// The cycles that are due since the start.
     goal: u64,
-    /// The times when these were last computed, and when the screen was last drawn.
+    /// The times when these were last computed, when the screen was last drawn, and when all of it was.
     reckoned: u64,
     drawn: u64,
+    refreshed: u64,
     /// The start of the speed measurement, and the speed of the last second.
     mark: Mark,
     speed: u64,
@@ -97,6 +104,7 @@ impl<'a> Drop for Session<'a> {
             goal: _,
             reckoned: _,
             drawn: _,
+            refreshed: _,
             mark: _,
             speed: _,
             is_ordered: _,
@@ -144,6 +152,7 @@ impl<'a> Session<'a> {
             goal: 0,
             reckoned: 0,
             drawn: 0,
+            refreshed: 0,
             mark: Mark {
                 micros: 0,
                 cycles: 0,
@@ -214,6 +223,14 @@ impl<'a> Session<'a> {
         self.counted = None;
     }
 
+    // Forgets what is drawn if it was drawn long ago.
+    fn refresh(&mut self, now: u64) {
+        if now.saturating_sub(self.refreshed) >= REFRESH {
+            self.forget();
+            self.refreshed = now;
+        }
+    }
+
     // Begins again, with no key typed.
     fn restart(&mut self) {
         self.player.restart(self.assembled.program());
@@ -276,7 +293,8 @@ impl<'a> Session<'a> {
                 }
             }
             _ => {
-                if !self.player.type_key(key)? {
+                let has_room = key == RETURN || self.player.waiting() < KEYS_BEFORE_RETURN;
+                if !has_room || !self.player.type_key(key)? {
                     self.rings = true;
                 }
             }
@@ -432,6 +450,7 @@ fn draw<W: Output>(
     let mut frame = Vec::new(alloc);
     let mut writer = ToWrite::new(&mut frame);
     session.measure_speed(now);
+    session.refresh(now);
     put_moves(session, &mut writer)?;
     put_changes(&session.shot, &shot, session.colours, &mut writer)?;
     put_face(alloc, session, &mut writer)?;

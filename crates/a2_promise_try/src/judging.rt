@@ -9,7 +9,9 @@ use a2_asm::Program;
 use a2_promise::{Found, Promise, promise_in, promises_of};
 use a2_run::{AssembledText, RunFault};
 use a2_stream::Output;
-use a2_tests::{NumberedLine, Verdict, begins_want_line, cases_of, judge_source, numbered_line};
+use a2_tests::{
+    Case, NumberedLine, Verdict, begins_want_line, cases_of, judge_source, numbered_line,
+};
 use a2_text::cut;
 use std::alloc::{AllocError, Global};
 
@@ -51,6 +53,32 @@ fn split_lines<'a>(alloc: Global, lines: &[&'a [u8]]) -> Result<PromiseLines<'a>
         }
     }
     Ok(parts)
+}
+
+/// What is tried: how many states of each routine, and the cases of the text's own run.
+#[derive(Clone, Copy)]
+pub struct Asked<'a> {
+    pub trials: Trials,
+    /// The cases that [`run_cases`] returns, with the sessions that they replay.
+    pub runs: &'a [Case<'a, Global>],
+}
+
+/// Returns the cases of a text's own run. There are none if the text promises nothing about its run.
+pub fn run_cases<'a>(alloc: Global, text: &'a [u8]) -> Result<Vec<Case<'a, Global>>, AllocError> {
+    let lines = cut(alloc, text)?;
+    let parts = split_lines(alloc, lines.as_slice())?;
+    if parts.run.is_empty() {
+        Ok(Vec::new(alloc))
+    } else {
+        cases_of(alloc, parts.run.as_slice())
+    }
+}
+
+// The lines about a text's own run, and their cases.
+#[derive(Clone, Copy)]
+struct Run<'a> {
+    lines: &'a [NumberedLine<'a>],
+    cases: &'a [Case<'a, Global>],
 }
 
 // The data for judging the promises of routines.
@@ -112,21 +140,20 @@ fn judge_one<W: Output>(
 fn judge_run<W: Output>(
     alloc: Global,
     assembled: &AssembledText<'_>,
-    run: &[NumberedLine],
+    run: Run<'_>,
     judgement: &mut Judgement,
     output: &mut W,
 ) -> Result<(), RunFault> {
-    if run.is_empty() {
+    if run.lines.is_empty() {
         return Ok(());
     }
     judgement.promises = judgement.promises.saturating_add(1);
-    if !are_known(run, output)? {
+    if !are_known(run.lines, output)? {
         judgement.is_any_refused = true;
         return Ok(());
     }
-    let cases = cases_of(alloc, run)?;
-    let verdicts = judge_source(alloc, cases.as_slice(), assembled)?;
-    for (case, verdict) in cases.iter().zip(&verdicts) {
+    let verdicts = judge_source(alloc, run.cases, assembled)?;
+    for (case, verdict) in run.cases.iter().zip(&verdicts) {
         if !matches!(verdict, Verdict::Passed) {
             judgement.is_any_failed = true;
         }
@@ -136,12 +163,12 @@ fn judge_run<W: Output>(
 }
 
 /// Judges all promises of the text of this program, and writes a report on each. These are the promises in comments
-/// about routines, each tried in as many states as `trials` says, and the promise of the text's own run. Fails if a
+/// about routines, each tried in as many states as `asked` says, and the promise of the text's own run. Fails if a
 /// write fails or memory runs out.
 pub fn judge_all<W: Output>(
     alloc: Global,
     assembled: &AssembledText<'_>,
-    trials: Trials,
+    asked: Asked<'_>,
     output: &mut W,
 ) -> Result<Judgement, RunFault> {
     let program = assembled.program();
@@ -160,17 +187,15 @@ pub fn judge_all<W: Output>(
         program,
         lines: parts.others.as_slice(),
         found: found.as_slice(),
-        trials,
+        trials: asked.trials,
     };
     for one in &found {
         judge_one(&routines, one, &mut judgement, output)?;
     }
-    judge_run(
-        alloc,
-        assembled,
-        parts.run.as_slice(),
-        &mut judgement,
-        output,
-    )?;
+    let run = Run {
+        lines: parts.run.as_slice(),
+        cases: asked.runs,
+    };
+    judge_run(alloc, assembled, run, &mut judgement, output)?;
     Ok(judgement)
 }

@@ -26,7 +26,7 @@ pub use broken::{Broken, Unmet};
 pub use exit::{Exit, FallThrough, TracedStep};
 pub use failure_machine::machine_at_entry;
 pub use first_failure::FirstFailure;
-pub use judging::{Judgement, judge_all};
+pub use judging::{Asked, Judgement, judge_all, run_cases};
 pub use printing::{prints_as_promised, push_printed};
 pub use report::{put_refusal, put_verdict};
 pub use trying::try_promise;

@@ -53,6 +53,8 @@ pub(crate) fn put_run<W: Output>(
     match verdict {
         Verdict::Passed => put_all(&[b"held\n"], output),
         Verdict::Missed(line, told) => put_missed(*line, told.as_slice(), output),
-        Verdict::NotCalled(why) => put_all(&[b"FAILS: ", why.as_slice(), b"\n"], output),
+        Verdict::NotCalled(why) | Verdict::Overfull(why) => {
+            put_all(&[b"FAILS: ", why.as_slice(), b"\n"], output)
+        }
     }
 }

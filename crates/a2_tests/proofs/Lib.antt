@@ -2,6 +2,8 @@ pub mod Below
 pub mod Ends
 pub mod Joining
 pub mod Lining
+pub mod Plain
 pub mod RowLaws
 pub mod Verbs
 pub mod Verdicts
+pub mod Wholes

@@ -4,7 +4,7 @@ use Rattle.std.proofs.Common.{sym, ap, ◌∙◌, arith}
 use Rattle.std.specs.List.{position_or_len}
 use Rattle.std.specs.Cmp.Lexicographic.{pointwise}
 use Rattle.a2_tests.specs.declared.line.Verb.{Verb}
-use Rattle.a2_tests.specs.declared.line.Verb.TheVariants.{Case, Keys, Limit, Call, Screen, Mem, Reg, Stop, Stops, Cycles, Bytes, Must}
+use Rattle.a2_tests.specs.declared.line.Verb.TheVariants.{Case, Keys, KeysAt, Replay, Free, Limit, Call, Screen, Mem, Reg, Stop, Stops, Cycles, Bytes, Must}
 use Rattle.a2_tests.specs.declared.line.TheConstants.{VERBS}
 use Rattle.a2_tests.specs.Lines.{verb_letters}
 
@@ -12,18 +12,21 @@ use Rattle.a2_tests.specs.Lines.{verb_letters}
 abbrev verb_number : Verb → ℕ
 verb_number Case = 0
 verb_number Keys = 1
-verb_number Limit = 2
-verb_number Call = 3
-verb_number Screen = 4
-verb_number Mem = 5
-verb_number Reg = 6
-verb_number Stop = 7
-verb_number Stops = 8
-verb_number Cycles = 9
-verb_number Bytes = 10
-verb_number Must = 11
+verb_number KeysAt = 2
+verb_number Replay = 3
+verb_number Free = 4
+verb_number Limit = 5
+verb_number Call = 6
+verb_number Screen = 7
+verb_number Mem = 8
+verb_number Reg = 9
+verb_number Stop = 10
+verb_number Stops = 11
+verb_number Cycles = 12
+verb_number Bytes = 13
+verb_number Must = 14
 
-verb-few : (v : Verb) → verb_number v < 12
+verb-few : (v : Verb) → verb_number v < 15
 verb-few Case = omega arith
 verb-few _ = omega arith
 
@@ -50,7 +53,7 @@ pub verb-only : (word : List ℕ) (v w : Verb) → verb_letters v ≡ word → v
 verb-only word v w e f = ap (λ k. Some k) (same_verb v w (e ∙ sym f))
 
 -- a word that differs from all verbs in the table is not a verb
-pub verb-none : (word : List ℕ) (n : ℕ) → 12 ≤ n
+pub verb-none : (word : List ℕ) (n : ℕ) → 15 ≤ n
     → ((k : ℕ) → k < n → verb_letters (slice_index_or VERBS k Case) ≢ word)
     → (v : Verb) → verb_letters v ≢ word
 verb-none word n all others v e =

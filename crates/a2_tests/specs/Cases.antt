@@ -47,6 +47,28 @@ returning_at (Some number) = record { number = number; line = line.Stop Returned
 abbrev pub returning : List NumberedLine → List NumberedLine
 returning lines = if list_any says_stop lines then [] else returning_at (caller_from None lines)
 
+-- the last line that names a recording
+abbrev pub names_recording : Line → Bool
+names_recording (line.Replay name) = true
+names_recording _ = false
+
+abbrev pub replay_or : Option NumberedLine → NumberedLine → Option NumberedLine
+replay_or before asked = if names_recording asked.line then Some asked else before
+
+abbrev pub replay_from : Option NumberedLine → List NumberedLine → Option NumberedLine
+replay_from before [] = before
+replay_from before (asked ∷ rest) = replay_from (replay_or before asked) rest
+
+-- a line that a recording rules out, because a session is repeated with its own keys and with the guard
+abbrev pub rules_out : Line → Bool
+rules_out (line.Keys text) = true
+rules_out (line.KeysAt text) = true
+rules_out line.Free = true
+rules_out _ = false
+
+abbrev pub is_ruled_out : NumberedLine → Bool
+is_ruled_out asked = rules_out asked.line
+
 -- a case: its name, and all that it requires
 pub record CaseLines : Type 0 where
   pub name : List ℕ

@@ -5,3 +5,4 @@ pub mod Rows
 pub mod Requirements
 pub mod Calls
 pub mod Judging
+pub mod Pages

@@ -3,12 +3,15 @@ use Rattle.std.specs.Prelude.{◌≡◌, ℕ, List, codes}
 use Rattle.std.specs.Str.Parse.{digits_value}
 use Rattle.a2_run.specs.Limits.{IsStepLimit}
 use Rattle.a2_tests.specs.declared.line.Verb.{Verb}
-use Rattle.a2_tests.specs.declared.line.Verb.TheVariants.{Case, Keys, Limit, Call, Screen, Mem, Reg, Stop, Stops, Cycles, Bytes, Must}
+use Rattle.a2_tests.specs.declared.line.Verb.TheVariants.{Case, Keys, KeysAt, Replay, Free, Limit, Call, Screen, Mem, Reg, Stop, Stops, Cycles, Bytes, Must}
 
 -- the letters of a verb
 abbrev pub verb_letters : Verb → List ℕ
 verb_letters Case = codes "case"
 verb_letters Keys = codes "keys"
+verb_letters KeysAt = codes "keys-at"
+verb_letters Replay = codes "replay"
+verb_letters Free = codes "free"
 verb_letters Limit = codes "limit"
 verb_letters Call = codes "call"
 verb_letters Screen = codes "screen"

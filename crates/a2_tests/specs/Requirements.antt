@@ -1,5 +1,5 @@
 -- What a line of a case requires of the end of a run. This project's profile.
-use Rattle.std.specs.Prelude.{◌≡◌, ℕ, ◌+◌, ◌%◌, ◌==◌, ◌<◌, ◌≤◌, Bool, true, false, ◌&&◌, not, List, [], ◌∷◌, drop, length, find, Option, Some, None, is_some, is_none, if◌then◌else◌}
+use Rattle.std.specs.Prelude.{◌≡◌, ℕ, ◌+◌, ◌%◌, ◌==◌, ◌<◌, ◌≤◌, Bool, true, false, ◌&&◌, List, [], ◌∷◌, drop, length, find, Option, Some, None, is_some, is_none, if◌then◌else◌}
 use Rattle.std.specs.List.{list_all}
 use Rattle.std.specs.Str.{bytes_eq}
 use Rattle.a2_text.specs.Bytes.{capital, number_in}
@@ -15,12 +15,12 @@ use Rattle.a2_asm.specs.Values.{name_value}
 use Rattle.a2_machine.specs.declared.causes.Cause.{Cause}
 use Rattle.a2_machine.specs.Meaning.{End}
 use Rattle.a2_machine.specs.State.{MachineState, world_of_state}
-use Rattle.a2_run.specs.Meaning.{picture_of}
+use Rattle.a2_run.specs.Meaning.{picture_of, attributes_of}
 use Rattle.a2_tests.specs.Settings.{byte_of, name_in, digits_in, tight}
-use Rattle.a2_tests.specs.Rows.{rows_fit, row_is, holds}
+use Rattle.a2_tests.specs.Rows.{are_all, rows_fit, row_has_styled, row_is, holds}
 use Rattle.a2_tests.specs.declared.line.NumberedLine.{NumberedLine}
 use Rattle.a2_tests.specs.declared.line.Line.{Line}
-use Rattle.a2_tests.specs.declared.line.Line.TheVariants.{Screen, Shows, Holds, Mem, Reg, Stop, Cycles, Bytes, Uses, Avoids}
+use Rattle.a2_tests.specs.declared.line.Line.TheVariants.{Screen, Shows, Holds, Styled, Plain, Mem, Reg, Stop, Cycles, Bytes, Uses, Avoids}
 
 -- the address of a place: a number after $, or a name of the program
 abbrev pub place_of : Assembled → List ℕ → Option ℕ
@@ -69,6 +69,10 @@ first_use_of statements m = find (is_use m) statements
 abbrev pub rows_of : Memory → List (List ℕ)
 rows_of memory = lines (picture_of memory)
 
+-- the rows of attributes of the screen, as `a2 run --attr` prints them
+abbrev pub marks_of : Memory → List (List ℕ)
+marks_of memory = lines (attributes_of true memory)
+
 -- the end of a machine's run with a cause
 abbrev pub end_at : MachineState → Cause → End
 end_at state cause = record { world = world_of_state state; steps = state.steps; cause = cause }
@@ -78,6 +82,9 @@ abbrev pub Meets : Line → List NumberedLine → Assembled → End → Type 0
 Meets Screen rest program end = rows_fit rest (rows_of end.world.memory) ≡ true
 Meets (Shows number text) rest program end = row_is number text.now (rows_of end.world.memory) ≡ true
 Meets (Holds text) rest program end = holds text.now (rows_of end.world.memory) ≡ true
+Meets (Styled number attribute text) rest program end =
+    row_has_styled number attribute text.now (rows_of end.world.memory) (marks_of end.world.memory) ≡ true
+Meets (Plain attribute) rest program end = list_all (are_all attribute) (marks_of end.world.memory) ≡ true
 Meets (Mem place bytes) rest program end = has_bytes_at end.world.memory (place_of program place.now) bytes.now ≡ true
 Meets (Reg text) rest program end = list_all (register_matches end.world.registers) (words (tight text.now)) ≡ true
 Meets (Stop cause) rest program end = end.cause ≡ cause

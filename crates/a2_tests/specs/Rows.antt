@@ -1,6 +1,8 @@
 -- Whether the rows of a screen are those that the lines of a WANT file require. This project's profile.
-use Rattle.std.specs.Prelude.{ℕ, Bool, true, false, not, if◌then◌else◌, ◌==◌, ◌&&◌, ◌||◌, List, [], ◌∷◌, Some, None, nat_eq, slice_get}
+use Rattle.std.specs.Prelude.{ℕ, Bool, true, false, not, if◌then◌else◌, ◌==◌, ◌&&◌, ◌||◌, List, [], ◌∷◌, Option, Some, None, nat_eq, nat_lt, slice_get, length, take, drop, ◌+◌, ◌-◌}
 use Rattle.std.specs.List.{list_all, list_any, starts_with}
+use Rattle.a2_page.specs.declared.Attribute.{Attribute}
+use Rattle.a2_page.specs.Text.{mark_of}
 use Rattle.a2_text.specs.Bytes.{is_blank}
 use Rattle.a2_tests.specs.declared.line.NumberedLine.{NumberedLine}
 use Rattle.a2_tests.specs.declared.line.Line.{Line}
@@ -63,3 +65,28 @@ has part (c ∷ text) = starts_with nat_eq (c ∷ text) part || has part text
 -- a row contains the part
 abbrev pub holds : List ℕ → List (List ℕ) → Bool
 holds part rows = list_any (has part) rows
+
+-- Attributes: rows of them are as `a2 run --attr` prints them, with a mark for each character. There are none for the rows of blocks
+-- that come first in a graphics mode.
+
+-- all marks are of this attribute
+abbrev pub are_all : Attribute → List ℕ → Bool
+are_all attribute marks = list_all (λ mark. mark == mark_of attribute) marks
+
+-- a text with these marks contains a part whose characters are shown like this
+abbrev pub has_styled : Attribute → List ℕ → List ℕ → List ℕ → Bool
+has_styled attribute part marks [] = starts_with nat_eq [] part
+has_styled attribute part marks (c ∷ text) =
+    (starts_with nat_eq (c ∷ text) part && are_all attribute (take (length part) marks)) || has_styled attribute part (drop 1 marks) text
+
+-- the marks of the row with a number: the last rows have marks
+abbrev pub marks_at : ℕ → List (List ℕ) → List (List ℕ) → Option (List ℕ)
+marks_at number rows marks =
+    if nat_lt (number + length marks) (length rows) then None else slice_get marks (number + length marks - length rows)
+
+abbrev pub row_has_styled : ℕ → Attribute → List ℕ → List (List ℕ) → List (List ℕ) → Bool
+row_has_styled number attribute part rows marks =
+    elim (marks_at number rows marks) [
+      | None ↦ false
+      | Some shown ↦ elim (slice_get rows number) [ None ↦ false | Some row ↦ has_styled attribute part shown row ]
+    ]

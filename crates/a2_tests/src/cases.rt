@@ -1,19 +1,41 @@
 //! The lines and cases of a WANT file.
 
-ghost use Rattle.std.specs.Prelude.{◌≡◌, ◌++◌, Some, None, map, IfOk, OnOk, MatchOption};
+ghost use Rattle.std.specs.Prelude.{◌≡◌, ◌∷◌, ◌++◌, [], Some, None, map, find, IfOk, OnOk, MatchOption};
 ghost use Rattle.std.specs.List.{before_first, list_any, position_or_len};
 ghost use Rattle.a2_tests.specs.Cases as said;
 
 use crate::line::{Line, NumberedLine, numbered_line};
 use a2_machine::Cause;
+use a2_timed_keys::Strokes;
 use std::alloc::{AllocError, Allocator};
+
+/// A recorded session, which a case replays.
+#[derive(Drop)]
+pub struct Session<A: Allocator> {
+    /// Its keys, each with the steps after which it was typed.
+    pub log: Strokes<A>,
+    /// How many steps it ran. The case's run has at most as many, unless a line says another limit.
+    pub steps: u32,
+}
 
 /// A case: its name, which is empty if the WANT file has no cases, and its lines. They begin with the lines before the
 /// first case. If the case calls a routine and no line says how the run stops, the first line requires that it returns.
-#[derive(Drop)]
 pub struct Case<'a, A: Allocator> {
     pub name: &'a [u8],
     pub lines: Vec<NumberedLine<'a>, A>,
+    /// The recorded session that it replays. It is not in the WANT file: [`replay_in`] returns its name, and the caller reads it.
+    pub session: Option<Session<A>>,
+}
+
+// Not derived, only for the prover: it follows this as one call, and a derived one field by field.
+impl<'a, A: Allocator> Drop for Case<'a, A> {
+    fn drop(self) {
+        let Case {
+            name: _,
+            lines: _,
+            session: _,
+        } = self;
+    }
 }
 
 /// Returns the meaning of each line of a WANT file. Fails only if memory runs out.
@@ -84,6 +106,42 @@ fn caller_in(lines: &[NumberedLine]) -> Option<usize>
     caller
 }
 
+// Returns the line itself if it names a recording, and otherwise the earlier one.
+fn replay_or<'a>(
+    before: Option<NumberedLine<'a>>,
+    asked: NumberedLine<'a>,
+) -> Option<NumberedLine<'a>>
+    ensures { result ≡ said.replay_or before.entry asked.entry }
+{
+    match asked.line {
+        Line::Replay(_) => Some(asked),
+        _ => before,
+    }
+}
+
+/// Returns the last of these lines that names a recording.
+pub fn replay_in<'a>(lines: &[NumberedLine<'a>]) -> Option<NumberedLine<'a>>
+    ensures { result ≡ said.replay_from None lines.now }
+{
+    let mut found = None;
+    for asked in lines {
+        found = replay_or(found, *asked);
+    }
+    found
+}
+
+/// Returns the first of these lines that a recording rules out, because a session is repeated with its own keys and with the guard.
+pub fn replay_conflict<'a>(lines: &[NumberedLine<'a>]) -> Option<NumberedLine<'a>>
+    ensures { result ≡ find said.is_ruled_out lines.now }
+{
+    for asked in lines {
+        if let Line::Keys(_) | Line::KeysAt(_) | Line::Free = asked.line {
+            return Some(*asked);
+        }
+    }
+    None
+}
+
 // Adds the requirement that a called routine returns, at the front, unless a line says how the run stops.
 fn require_return<'a, A: Allocator + Copy>(
     lines: &mut Vec<NumberedLine<'a>, A>,
@@ -112,7 +170,24 @@ fn case_with<'a, A: Allocator + Copy>(
     let mut lines = Vec::from_slice(alloc, head)?;
     lines.extend_from_slice(body)?;
     require_return(&mut lines)?;
-    Ok(Case { name, lines })
+    Ok(Case {
+        name,
+        lines,
+        session: None,
+    })
+}
+
+// Returns a single case without a name, which has all lines.
+fn whole<'a, A: Allocator + Copy>(
+    alloc: A,
+    lines: &[NumberedLine<'a>],
+) -> Result<Vec<Case<'a, A>, A>, AllocError>
+    ensures { IfOk result (λ cases. map said.case_of cases.items ≡ said.case_with [] lines.now ∷ []) }
+{
+    let case = case_with(alloc, b"", lines, &[])?;
+    let mut cases = Vec::new(alloc);
+    cases.push(case)?;
+    Ok(cases)
 }
 
 /// Returns the cases of some lines. Each case begins with a line `case NAME` and ends before the next one. The lines
@@ -134,7 +209,7 @@ pub fn cases_of<'a, A: Allocator + Copy>(
         rest = following;
     }
     if cases.is_empty() {
-        cases.push(case_with(alloc, b"", lines, &[])?)?;
+        return whole(alloc, lines);
     }
     Ok(cases)
 }

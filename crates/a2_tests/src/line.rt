@@ -9,8 +9,10 @@ use crate::settings::{byte_of, setting_in};
 use a2_bus::Keys;
 use a2_machine::Cause;
 use a2_opcode::Mnemonic;
+use a2_page::Attribute;
 use a2_run::step_limit;
 use a2_text::{after_blanks, capital, first_word, number_in, only_word, split_word};
+use a2_timed_keys::stroke_in;
 
 /// The meaning of a line of a WANT file. Each text in it is a part of the line.
 #[derive(Clone, Copy)]
@@ -21,6 +23,12 @@ pub enum Line<'a> {
     Case(&'a [u8]),
     /// `keys K`: these keys wait at the start, spelled as on the command line.
     Keys(&'a str),
+    /// `keys-at N:K`: these keys are typed after so many steps, given as on the command line.
+    KeysAt(&'a str),
+    /// `replay T`: the keys of the recorded session in this file are typed, each after its steps.
+    Replay(&'a str),
+    /// `free`: the run is not guarded.
+    Free,
     /// `limit N`: the run has at most this many steps, 0 to 100,000,000.
     Limit(u32),
     /// `call NAME A=3 $320=05`: the routine with this name is called, with these bytes at these places.
@@ -33,6 +41,10 @@ pub enum Line<'a> {
     Shows(u16, &'a [u8]),
     /// `screen holds "TEXT"`: a row of the screen contains this text.
     Holds(&'a [u8]),
+    /// `screen row 3 is inverse "TEXT"`: the row with this number contains this text, and each of its characters is shown like this.
+    Styled(u16, Attribute, &'a [u8]),
+    /// `screen is normal`: each character of the screen is shown like this.
+    Plain(Attribute),
     /// `mem $320 = A9 01`: these bytes begin at this place, a number or a name.
     Mem(&'a str, &'a [u8]),
     /// `reg A=E9 X=00`: these registers have these values. Blanks may be around each `=`, here and after `call`.
@@ -81,6 +93,9 @@ pub(crate) fn following<'a, 'b>(
 pub(crate) enum Verb {
     Case,
     Keys,
+    KeysAt,
+    Replay,
+    Free,
     Limit,
     Call,
     Screen,
@@ -94,9 +109,12 @@ pub(crate) enum Verb {
 }
 
 /// All verbs.
-pub(crate) const VERBS: [Verb; 12] = [
+pub(crate) const VERBS: [Verb; 15] = [
     Verb::Case,
     Verb::Keys,
+    Verb::KeysAt,
+    Verb::Replay,
+    Verb::Free,
     Verb::Limit,
     Verb::Call,
     Verb::Screen,
@@ -117,6 +135,9 @@ impl Verb {
         match self {
             Verb::Case => b"case",
             Verb::Keys => b"keys",
+            Verb::KeysAt => b"keys-at",
+            Verb::Replay => b"replay",
+            Verb::Free => b"free",
             Verb::Limit => b"limit",
             Verb::Call => b"call",
             Verb::Screen => b"screen",
@@ -154,6 +175,11 @@ fn number_of(word: &[u8]) -> Option<u32>
     step_limit(text)
 }
 
+/// Returns whether a word is a number of steps.
+pub(crate) fn is_limit(word: &[u8]) -> bool {
+    number_of(word).is_some()
+}
+
 // Returns the text after the first word of `text`, if that is `word`.
 fn after<'a>(word: &[u8], text: &'a [u8]) -> Option<&'a [u8]> {
     let (first, following) = first_word(text)?;
@@ -181,6 +207,25 @@ fn keys_in(rest: &[u8]) -> Option<&str> {
     };
     Keys::parse(text)?;
     Some(text)
+}
+
+// Returns the steps and the keys after `keys-at`.
+fn stroke_after(rest: &[u8]) -> Option<&str> {
+    let Ok(text) = std::str::from_utf8(after_blanks(rest)) else {
+        return None;
+    };
+    match stroke_in(text) {
+        Ok(_) => Some(text),
+        Err(_) => None,
+    }
+}
+
+// Returns the name of the file after `replay`.
+fn file_in(rest: &[u8]) -> Option<&str> {
+    match std::str::from_utf8(after_blanks(rest).trim_ascii_end()) {
+        Ok(name) if !name.is_empty() => Some(name),
+        _ => None,
+    }
 }
 
 /// Returns whether a word is a byte.
@@ -286,8 +331,31 @@ fn quoted(text: &[u8]) -> Option<&[u8]> {
     }
 }
 
+/// Returns the attribute that a word names, in either case.
+pub(crate) fn attribute_of(word: &[u8]) -> Option<Attribute> {
+    if is_same_word(word, b"normal") {
+        Some(Attribute::Normal)
+    } else if is_same_word(word, b"inverse") {
+        Some(Attribute::Inverse)
+    } else if is_same_word(word, b"flashing") {
+        Some(Attribute::Flashing)
+    } else {
+        None
+    }
+}
+
+// Parses the text after `screen row 3 is`.
+fn styled<'a>(number: u16, rest: &'a [u8]) -> Option<Line<'a>> {
+    let (word, text) = first_word(rest)?;
+    Some(Line::Styled(number, attribute_of(word)?, quoted(text)?))
+}
+
 // Parses the text after `screen row`.
 fn shown<'a>(rest: &'a [u8]) -> Option<Line<'a>> {
+    let (word, following) = first_word(rest)?;
+    if let Some(text) = after(b"is", following) {
+        return styled(number_in(10, 2, word)?, text);
+    }
     let setting = setting_in(rest)?;
     let number = number_in(10, 2, setting.name)?;
     Some(Line::Shows(number, quoted(setting.value)?))
@@ -300,6 +368,9 @@ fn screen<'a>(rest: &'a [u8]) -> Option<Line<'a>> {
     }
     if let Some(row) = after(b"row", rest) {
         return shown(row);
+    }
+    if let Some(word) = after(b"is", rest) {
+        return Some(Line::Plain(attribute_of(only_word(word)?)?));
     }
     Some(Line::Holds(quoted(after(b"holds", rest)?)?))
 }
@@ -337,11 +408,22 @@ fn called<'a>(rest: &'a [u8]) -> Option<Line<'a>> {
     }
 }
 
+// Parses the text after `free`.
+fn free<'a>(rest: &'a [u8]) -> Option<Line<'a>> {
+    match first_word(rest) {
+        None => Some(Line::Free),
+        Some(_) => None,
+    }
+}
+
 // Parses the text after a verb.
 fn said<'a>(verb: Verb, rest: &'a [u8]) -> Option<Line<'a>> {
     match verb {
         Verb::Case => Some(Line::Case(after_blanks(rest))),
         Verb::Keys => Some(Line::Keys(keys_in(rest)?)),
+        Verb::KeysAt => Some(Line::KeysAt(stroke_after(rest)?)),
+        Verb::Replay => Some(Line::Replay(file_in(rest)?)),
+        Verb::Free => free(rest),
         Verb::Limit => Some(Line::Limit(limit_in(rest)?)),
         Verb::Call => called(rest),
         Verb::Screen => screen(rest),

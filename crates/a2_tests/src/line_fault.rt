@@ -1,9 +1,9 @@
 //! Messages about lines of a WANT file that are in none of the forms.
 
-use crate::line::{Named, VERBS, Verb, is_byte, verb_of};
+use crate::line::{Named, VERBS, Verb, attribute_of, is_byte, is_limit, verb_of};
 use crate::settings::setting_in;
 use a2_stream::{Output, WriteFault, put, put_all};
-use a2_text::{after_blanks, decimal, first_word, number_in, split_word};
+use a2_text::{after_blanks, decimal, first_word, front_len, number_in, split_word};
 use std::alloc::{AllocError, Allocator};
 use strsim::generic_levenshtein;
 
@@ -13,6 +13,10 @@ enum Mistake {
     Verb,
     Steps,
     Keys,
+    Stroke,
+    Typed,
+    Recording,
+    Alone,
     Routine,
     Equals,
     Byte,
@@ -22,6 +26,7 @@ enum Mistake {
     Row,
     Shown,
     Quotes,
+    Attribute,
     Screen,
     Cause,
     Most,
@@ -36,6 +41,11 @@ impl Mistake {
             Mistake::Verb => b"`@` does not begin a line of a test file",
             Mistake::Steps => b"`limit` needs a number of steps from 0 to 100000000, not `@`",
             Mistake::Keys => b"`keys` needs at most 4096 keys, not `@`",
+            Mistake::Stroke =>
+                b"`keys-at` needs a number of steps from 0 to 100000000, a colon and keys, not `@`",
+            Mistake::Typed => b"`keys-at` needs at most 4096 keys after the colon, not `@`",
+            Mistake::Recording => b"`@` is not the name of a file",
+            Mistake::Alone => b"nothing can follow `free`, but `@` does",
             Mistake::Routine => b"`@` is not the name of a routine",
             Mistake::Equals => b"`=` and a byte are missing after `@`",
             Mistake::Byte => b"`@` is not a byte",
@@ -44,8 +54,9 @@ impl Mistake {
             Mistake::Place => b"`mem` needs a place, `=` and bytes, not `@`",
             Mistake::Row => b"`@` is not the number of a row",
             Mistake::Shown => b"`=` and a text are missing after `@`",
+            Mistake::Attribute => b"`@` does not say how characters are shown",
             Mistake::Quotes => b"the text is not between quotes: `@`",
-            Mistake::Screen => b"`screen` is alone, or `row` or `holds` follows it, not `@`",
+            Mistake::Screen => b"`screen` is alone, or `row`, `holds` or `is` follows it, not `@`",
             Mistake::Cause => b"`@` is not the cause of a stop",
             Mistake::Most => b"`<=` and a number from 0 to 100000000 are expected, not `@`",
             Mistake::Must => b"`use` or `not use` is expected after `must`, not `@`",
@@ -57,9 +68,12 @@ impl Mistake {
     fn fix(self) -> &'static [u8] {
         match self {
             Mistake::Verb =>
-                b"write case, keys, limit, call, screen, mem, reg, stop, cycles, bytes or must",
+                b"write case, keys, keys-at, replay, free, limit, call, screen, mem, reg, stop, cycles, bytes or must",
             Mistake::Steps => b"write it as in limit 20000",
-            Mistake::Keys =>
+            Mistake::Stroke => b"write it as in keys-at 1200:HI\\r",
+            Mistake::Recording => b"write it as in replay game.keys",
+            Mistake::Alone => b"write free alone",
+            Mistake::Keys | Mistake::Typed =>
                 b"write the characters from space to ~, \\r for RETURN, \\b and \\f for the arrows, \\x for Ctrl-X, \\\\ for \\",
             Mistake::Routine => b"write it as in call DOUBLE A=15",
             Mistake::Equals => b"write it as in A=0F",
@@ -70,8 +84,10 @@ impl Mistake {
             Mistake::Place => b"write it as in mem $320 = A9 01",
             Mistake::Row => b"write a number from 0 to 23",
             Mistake::Shown => b"write it as in screen row 0 = \"TEXT\"",
+            Mistake::Attribute => b"write normal, inverse or flashing",
             Mistake::Quotes => b"write it as in \"TEXT\"",
-            Mistake::Screen => b"write it as in screen row 0 = \"TEXT\", or screen holds \"TEXT\"",
+            Mistake::Screen =>
+                b"write it as in screen row 0 = \"TEXT\", screen holds \"TEXT\", or screen is normal",
             Mistake::Cause =>
                 b"write RETURNED, BRK, LIMIT, KEYS, WINDOW, ROM, OPCODE, DECIMAL, CODE WRITE or OFF STATEMENT",
             Mistake::Most => b"write it as in cycles <= 100",
@@ -107,6 +123,15 @@ impl<'a> Wrong<'a> {
     // Returns that all of a text is wrong.
     fn all(mistake: Mistake, text: &'a [u8]) -> Wrong<'a> {
         Wrong::front(mistake, text, after_blanks(text).len())
+    }
+
+    // Returns that all of a text is wrong, with its blanks.
+    fn exactly(mistake: Mistake, text: &'a [u8]) -> Wrong<'a> {
+        Wrong {
+            mistake,
+            from: text,
+            width: text.len(),
+        }
     }
 
     // Returns the sentence that says what is wrong.
@@ -165,17 +190,34 @@ fn wrong_setting<'a>(named: Named, text: &'a [u8]) -> Wrong<'a> {
     Wrong::word(Mistake::Equals, rest)
 }
 
+// Returns what is wrong after `screen row`.
+fn wrong_row<'a>(text: &'a [u8]) -> Wrong<'a> {
+    let (word, following) = split_word(text);
+    if let (b"is", rest) = split_word(following) {
+        if number_in(10, 2, word).is_none() {
+            return Wrong::word(Mistake::Row, text);
+        }
+        let (name, quote) = split_word(rest);
+        return match attribute_of(name) {
+            Some(_) => Wrong::all(Mistake::Quotes, quote),
+            None => Wrong::word(Mistake::Attribute, rest),
+        };
+    }
+    match setting_in(text) {
+        None => Wrong::all(Mistake::Shown, text),
+        Some(setting) if number_in(10, 2, setting.name).is_none() => {
+            Wrong::front(Mistake::Row, text, setting.name.len())
+        }
+        Some(setting) => Wrong::all(Mistake::Quotes, setting.value),
+    }
+}
+
 // Returns what is wrong after `screen`.
 fn wrong_screen<'a>(rest: &'a [u8]) -> Wrong<'a> {
     match split_word(rest) {
         (b"holds", text) => Wrong::all(Mistake::Quotes, text),
-        (b"row", text) => match setting_in(text) {
-            None => Wrong::all(Mistake::Shown, text),
-            Some(setting) if number_in(10, 2, setting.name).is_none() => {
-                Wrong::front(Mistake::Row, text, setting.name.len())
-            }
-            Some(setting) => Wrong::all(Mistake::Quotes, setting.value),
-        },
+        (b"row", text) => wrong_row(text),
+        (b"is", text) => Wrong::all(Mistake::Attribute, text),
         _ => Wrong::all(Mistake::Screen, rest),
     }
 }
@@ -208,12 +250,26 @@ fn wrong_call<'a>(rest: &'a [u8]) -> Wrong<'a> {
     }
 }
 
+// Returns what is wrong after `keys-at`: the number of steps before the colon, or the keys after it.
+fn wrong_stroke<'a>(rest: &'a [u8]) -> Wrong<'a> {
+    let here = after_blanks(rest);
+    let (steps, following) = here.split_at(front_len(here, |c| c != b':'));
+    match following {
+        [b':', keys @ ..] if is_limit(steps) => Wrong::exactly(Mistake::Typed, keys),
+        [b':', ..] => Wrong::front(Mistake::Stroke, here, steps.len()),
+        _ => Wrong::all(Mistake::Stroke, here),
+    }
+}
+
 // Returns what is wrong with a line, if it is in none of the forms.
 fn wrong_in<'a>(text: &'a [u8]) -> Wrong<'a> {
     let (word, rest) = split_word(text);
     match verb_of(word) {
         None | Some(Verb::Case) => Wrong::word(Mistake::Verb, text),
         Some(Verb::Keys) => Wrong::all(Mistake::Keys, rest),
+        Some(Verb::KeysAt) => wrong_stroke(rest),
+        Some(Verb::Replay) => Wrong::all(Mistake::Recording, rest),
+        Some(Verb::Free) => Wrong::all(Mistake::Alone, rest),
         Some(Verb::Limit) => Wrong::all(Mistake::Steps, rest),
         Some(Verb::Call) => wrong_call(rest),
         Some(Verb::Screen) => wrong_screen(rest),

@@ -6,9 +6,10 @@ use crate::requirements::{
     Ending, first_different_byte, first_different_register, first_use_of, place_of, register_byte,
     size_of,
 };
-use crate::rows::{first_row, row_count, row_fits};
+use crate::rows::{Rows, are_all, first_row, marks_for, row_count, row_fits};
 use crate::settings::{name_in, tight};
 use a2_opcode::Mnemonic;
+use a2_page::Attribute;
 use a2_symbols::statement_at;
 use a2_text::{decimal, hex_pair, hex_word, is_blank};
 use std::alloc::{AllocError, Allocator};
@@ -94,6 +95,107 @@ fn report_row_at<A: Allocator + Copy>(
         Some(row) => report_row(text, usize::from(number), wanted, *row),
         None => put_fewer(text, shown.len()),
     }
+}
+
+// Returns the name of an attribute.
+fn name_of(attribute: Attribute) -> &'static [u8] {
+    match attribute {
+        Attribute::Normal => b"normal",
+        Attribute::Inverse => b"inverse",
+        Attribute::Flashing => b"flashing",
+    }
+}
+
+// Returns where a text contains a part first.
+fn position_of(text: &[u8], part: &[u8]) -> Option<usize> {
+    for index in 0..text.len() {
+        if text[index..].starts_with(part) {
+            return Some(index);
+        }
+    }
+    None
+}
+
+// Returns the marks of a part of a row, if the row contains the part and has marks.
+fn marks_of_part<'a>(number: u16, part: &[u8], rows: Rows<'a>) -> Option<&'a [u8]> {
+    let text = rows.texts.get(usize::from(number))?;
+    let marks = rows.marks_at(number)?;
+    let at = position_of(*text, part)?;
+    Some(marks_for(marks.get(at..)?, part))
+}
+
+// Appends the number of a row.
+fn report_number<A: Allocator + Copy>(
+    text: &mut Vec<u8, A>,
+    number: usize,
+) -> Result<(), AllocError> {
+    let number = decimal(number as u64);
+    append(text, &[b"screen row ", number.as_slice()])
+}
+
+// Appends how characters are shown, and should be.
+fn report_shown<A: Allocator + Copy>(
+    text: &mut Vec<u8, A>,
+    attribute: Attribute,
+    marks: &[u8],
+) -> Result<(), AllocError> {
+    append(text, &[name_of(attribute), b", found "])?;
+    append(text, &[marks])
+}
+
+// Reports that only the attributes of a text in a row differ.
+fn report_attributes<A: Allocator + Copy>(
+    text: &mut Vec<u8, A>,
+    number: u16,
+    part: &[u8],
+    attribute: Attribute,
+    marks: &[u8],
+) -> Result<(), AllocError> {
+    report_number(text, usize::from(number))?;
+    append(text, &[b": only the attributes of \""])?;
+    append(text, &[part, b"\" differ: expected "])?;
+    report_shown(text, attribute, marks)
+}
+
+// Reports a row that does not contain a text that is shown in a given way: other characters, or only other attributes.
+fn report_styled<A: Allocator + Copy>(
+    text: &mut Vec<u8, A>,
+    number: u16,
+    attribute: Attribute,
+    part: &[u8],
+    rows: Rows<'_>,
+) -> Result<(), AllocError> {
+    match marks_of_part(number, part, rows) {
+        Some(marks) => report_attributes(text, number, part, attribute, marks),
+        None => report_row_at(text, number, part, rows.texts),
+    }
+}
+
+// Reports a row with a character that is not shown in a given way.
+fn report_marks<A: Allocator + Copy>(
+    text: &mut Vec<u8, A>,
+    number: usize,
+    attribute: Attribute,
+    marks: &[u8],
+) -> Result<(), AllocError> {
+    report_number(text, number)?;
+    append(text, &[b": expected all characters "])?;
+    report_shown(text, attribute, marks)
+}
+
+// Reports the first row with a character that is not shown in a given way.
+fn report_plain<A: Allocator + Copy>(
+    text: &mut Vec<u8, A>,
+    attribute: Attribute,
+    rows: Rows<'_>,
+) -> Result<(), AllocError> {
+    let first = rows.texts.len().saturating_sub(rows.marks.len());
+    for (index, marks) in rows.marks.iter().enumerate() {
+        if !are_all(attribute, *marks) {
+            return report_marks(text, first.saturating_add(index), attribute, *marks);
+        }
+    }
+    Ok(())
 }
 
 // Appends two hexadecimal digits, or `no readable byte`.
@@ -205,6 +307,10 @@ fn report_difference<A: Allocator + Copy>(
         Line::Screen => report_rows(text, rest, ending.rows),
         Line::Shows(number, wanted) => report_row_at(text, number, wanted, ending.rows),
         Line::Holds(part) => append(text, &[b"no row of the screen contains \"", part, b"\""]),
+        Line::Styled(number, attribute, part) => {
+            report_styled(text, number, attribute, part, ending.screen())
+        }
+        Line::Plain(attribute) => report_plain(text, attribute, ending.screen()),
         Line::Mem(place, bytes) => report_memory(text, place, bytes, ending),
         Line::Reg(words) => report_registers(alloc, text, words, ending),
         Line::Stop(cause) => append(

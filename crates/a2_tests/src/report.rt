@@ -1,7 +1,9 @@
-//! The report on some solutions: a table, or CSV, JSON or the XML of JUnit.
+//! The report on some solutions: a table, CSV, JSON, the XML of JUnit, or a page of HTML.
 
 use crate::cases::Case;
+use crate::html::put_html;
 use crate::judge::Verdict;
+use crate::page::{PAGE_HEAD, PAGE_TAIL};
 use a2_stream::{Output, WriteFault, put, put_all};
 use a2_text::decimal;
 use std::alloc::Allocator;
@@ -14,6 +16,8 @@ pub enum Format {
     Csv,
     Json,
     Junit,
+    /// A page with a table, in which a failed case opens.
+    Html,
 }
 
 /// The result for a solution.
@@ -51,6 +55,15 @@ impl Totals {
             failed: 0,
             refused: 0,
         }
+    }
+
+    /// Returns how many solutions were counted, at most 2^32 - 1.
+    pub fn files(&self) -> u32 {
+        let files = self
+            .passed
+            .saturating_add(self.failed)
+            .saturating_add(self.refused);
+        u32::try_from(files).unwrap_or(u32::MAX)
     }
 
     /// Counts a solution.
@@ -99,6 +112,9 @@ fn spelt<'a>(format: Format, is_utf8: bool, c: &'a u8) -> &'a [u8] {
 // Writes a text, with each byte as the format spells it.
 fn put_text<W: Output>(format: Format, text: &[u8], writer: &mut W) -> Result<(), WriteFault> {
     let is_utf8 = std::str::from_utf8(text).is_ok();
+    if let Format::Html = format {
+        return put_html(is_utf8, text, writer);
+    }
     for c in text {
         put(spelt(format, is_utf8, c), writer)?;
     }
@@ -166,7 +182,7 @@ impl<'a> Outcome<'a> {
 fn line_of<A: Allocator + Copy>(verdict: &Verdict<A>) -> usize {
     match verdict {
         Verdict::Missed(line, _) => *line,
-        Verdict::Passed | Verdict::NotCalled(_) => 0,
+        Verdict::Passed | Verdict::NotCalled(_) | Verdict::Overfull(_) => 0,
     }
 }
 
@@ -174,7 +190,9 @@ fn line_of<A: Allocator + Copy>(verdict: &Verdict<A>) -> usize {
 fn report_of<A: Allocator + Copy>(verdict: &Verdict<A>) -> &[u8] {
     match verdict {
         Verdict::Passed => b"",
-        Verdict::Missed(_, report) | Verdict::NotCalled(report) => report.as_slice(),
+        Verdict::Missed(_, report) | Verdict::NotCalled(report) | Verdict::Overfull(report) => {
+            report.as_slice()
+        }
     }
 }
 
@@ -546,26 +564,206 @@ fn put_suite<A: Allocator + Copy, W: Output>(
     put(b"  </testsuite>\n", writer)
 }
 
+// Writes the part of a page before the solutions: its style, and the heading of each column.
+fn put_page_head<A: Allocator + Copy, W: Output>(
+    cases: &[Case<A>],
+    writer: &mut W,
+) -> Result<(), WriteFault> {
+    put(PAGE_HEAD, writer)?;
+    for case in cases {
+        let name: &[u8] = if case.name.is_empty() {
+            b"The run"
+        } else {
+            case.name
+        };
+        put_pieces(
+            Format::Html,
+            &[
+                Piece::Plain(b"<th scope=\"col\">"),
+                Piece::Text(name),
+                Piece::Plain(b"</th>"),
+            ],
+            writer,
+        )?;
+    }
+    put(b"</tr></thead>\n<tbody>\n", writer)
+}
+
 /// Writes the part of a report before the solutions.
-pub fn put_head<W: Output>(format: Format, writer: &mut W) -> Result<(), WriteFault> {
-    put(
-        match format {
-            Format::Table => b"",
-            Format::Csv => b"file,passed,cases,first difference\n",
-            Format::Json => b"[",
-            Format::Junit => b"<?xml version=\"1.0\" encoding=\"UTF-8\"?>\n<testsuites>\n",
-        },
+pub fn put_head<A: Allocator + Copy, W: Output>(
+    format: Format,
+    cases: &[Case<A>],
+    writer: &mut W,
+) -> Result<(), WriteFault> {
+    match format {
+        Format::Table => Ok(()),
+        Format::Csv => put(b"file,passed,cases,first difference\n", writer),
+        Format::Json => put(b"[", writer),
+        Format::Junit => put(
+            b"<?xml version=\"1.0\" encoding=\"UTF-8\"?>\n<testsuites>\n",
+            writer,
+        ),
+        Format::Html => put_page_head(cases, writer),
+    }
+}
+
+// Writes the button that opens the film of a case.
+fn put_button<W: Output>(solution: u32, index: usize, writer: &mut W) -> Result<(), WriteFault> {
+    put_pieces(
+        Format::Html,
+        &[
+            Piece::Plain(b"<button type=\"button\" data-film=\"film-"),
+            Piece::Number(solution as usize),
+            Piece::Plain(b"-"),
+            Piece::Number(index),
+            Piece::Plain(b"\">Film of the run</button>"),
+        ],
         writer,
     )
 }
 
-/// Writes the result for a solution called `name`. `is_first` says whether it is the first one.
-pub fn put_solution<A: Allocator + Copy, W: Output>(
-    format: Format,
+// Writes the cell of a case that was judged. If it failed, it opens, and has a button for its film.
+fn put_cell<'a, W: Output>(
+    solution: u32,
+    index: usize,
+    outcome: Outcome<'a>,
+    writer: &mut W,
+) -> Result<(), WriteFault> {
+    if outcome.passed {
+        return put(b"<td class=\"passed\">passed</td>", writer);
+    }
+    put(
+        b"<td class=\"failed\"><details><summary>failed</summary><p>",
+        writer,
+    )?;
+    if outcome.line > 0 {
+        put_pieces(
+            Format::Html,
+            &[
+                Piece::Plain(b"line "),
+                Piece::Number(outcome.line),
+                Piece::Plain(b": "),
+            ],
+            writer,
+        )?;
+    }
+    put_text(Format::Html, outcome.report, writer)?;
+    put(b"</p>", writer)?;
+    if outcome.line > 0 {
+        put_button(solution, index, writer)?;
+    }
+    put(b"</details></td>", writer)
+}
+
+// Writes the cells of the cases of a solution that was judged.
+fn put_cells<A: Allocator + Copy, W: Output>(
+    solution: u32,
+    cases: &[Case<A>],
+    verdicts: &[Verdict<A>],
+    writer: &mut W,
+) -> Result<(), WriteFault> {
+    for index in 0..verdicts.len() {
+        let outcome = Outcome::of(name_at(cases, index), &verdicts[index]);
+        put_cell(solution, index, outcome, writer)?;
+    }
+    Ok(())
+}
+
+// Writes the cell of a solution that was not judged, over the columns of all cases.
+fn put_wide_cell<W: Output>(count: usize, why: &[u8], writer: &mut W) -> Result<(), WriteFault> {
+    put_pieces(
+        Format::Html,
+        &[
+            Piece::Plain(b"<td class=\"errors\" colspan=\""),
+            Piece::Number(count),
+            Piece::Plain(b"\"><details><summary>not tested</summary><pre>"),
+            Piece::Text(why),
+            Piece::Plain(b"</pre></details></td>"),
+        ],
+        writer,
+    )
+}
+
+// Writes the row of a solution in the table of a page.
+fn put_page_row<A: Allocator + Copy, W: Output>(
+    solution: u32,
     name: &[u8],
     cases: &[Case<A>],
     found: &Found<A>,
-    is_first: bool,
+    writer: &mut W,
+) -> Result<(), WriteFault> {
+    put_pieces(
+        Format::Html,
+        &[
+            Piece::Plain(b"<tr><th scope=\"row\">"),
+            Piece::Text(name),
+            Piece::Plain(b"</th><td>"),
+            Piece::Number(passed_in(found)),
+            Piece::Plain(b"/"),
+            Piece::Number(cases.len()),
+            Piece::Plain(b"</td>"),
+        ],
+        writer,
+    )?;
+    match found {
+        Found::Judged(verdicts) => put_cells(solution, cases, *verdicts, writer)?,
+        Found::Refused(why) => put_wide_cell(cases.len(), *why, writer)?,
+        Found::Invalid(errors) => put_wide_cell(cases.len(), errors.lines, writer)?,
+    }
+    put(b"</tr>\n", writer)
+}
+
+/// Writes the film of a case that failed, for a page: `rows` is what a film has between its page's head and tail, which has no `<`.
+pub fn put_film<W: Output>(
+    solution: u32,
+    index: usize,
+    rows: &[u8],
+    writer: &mut W,
+) -> Result<(), WriteFault> {
+    put_pieces(
+        Format::Html,
+        &[
+            Piece::Plain(b"<script type=\"text/plain\" id=\"film-"),
+            Piece::Number(solution as usize),
+            Piece::Plain(b"-"),
+            Piece::Number(index),
+            Piece::Plain(b"\">"),
+            Piece::Plain(rows),
+            Piece::Plain(b"</script>\n"),
+        ],
+        writer,
+    )
+}
+
+/// The page of a film without its rows, which are between these two parts.
+#[derive(Clone, Copy)]
+pub struct Viewer<'a> {
+    pub head: &'a [u8],
+    pub tail: &'a [u8],
+}
+
+// Writes the page of a film for the script of a page.
+fn put_viewer<W: Output>(viewer: Viewer<'_>, writer: &mut W) -> Result<(), WriteFault> {
+    put_pieces(
+        Format::Html,
+        &[
+            Piece::Plain(b"<textarea hidden id=\"film-head\">"),
+            Piece::Text(viewer.head),
+            Piece::Plain(b"</textarea>\n<textarea hidden id=\"film-tail\">"),
+            Piece::Text(viewer.tail),
+            Piece::Plain(b"</textarea>\n"),
+        ],
+        writer,
+    )
+}
+
+/// Writes the result for a solution called `name`. `solution` is its number, from 0.
+pub fn put_solution<A: Allocator + Copy, W: Output>(
+    format: Format,
+    solution: u32,
+    name: &[u8],
+    cases: &[Case<A>],
+    found: &Found<A>,
     writer: &mut W,
 ) -> Result<(), WriteFault> {
     match format {
@@ -577,13 +775,14 @@ pub fn put_solution<A: Allocator + Copy, W: Output>(
             writer,
         ),
         Format::Json => put_json(
-            if is_first { b"\n" } else { b",\n" },
+            if solution == 0 { b"\n" } else { b",\n" },
             name,
             cases,
             found,
             writer,
         ),
         Format::Junit => put_suite(name, cases, found, writer),
+        Format::Html => put_page_row(solution, name, cases, found, writer),
     }
 }
 
@@ -618,10 +817,24 @@ fn put_totals<W: Output>(totals: &Totals, writer: &mut W) -> Result<(), WriteFau
     )
 }
 
-/// Writes the part of a report after the solutions.
+// Writes the part of a page after the solutions.
+fn put_page_tail<W: Output>(
+    totals: &Totals,
+    viewer: Viewer<'_>,
+    writer: &mut W,
+) -> Result<(), WriteFault> {
+    put(b"</tbody>\n</table>\n</div>\n<p>", writer)?;
+    put_totals(totals, writer)?;
+    put(b"</p>\n", writer)?;
+    put_viewer(viewer, writer)?;
+    put(PAGE_TAIL, writer)
+}
+
+/// Writes the part of a report after the solutions. A page has films, which need `viewer`.
 pub fn put_tail<W: Output>(
     format: Format,
     totals: &Totals,
+    viewer: Viewer<'_>,
     writer: &mut W,
 ) -> Result<(), WriteFault> {
     match format {
@@ -629,5 +842,6 @@ pub fn put_tail<W: Output>(
         Format::Csv => Ok(()),
         Format::Json => put(b"\n]\n", writer),
         Format::Junit => put(b"</testsuites>\n", writer),
+        Format::Html => put_page_tail(totals, viewer, writer),
     }
 }

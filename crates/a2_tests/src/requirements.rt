@@ -10,7 +10,7 @@ ghost use Rattle.a2_tests.specs.Settings.{tight as tight_text};
 ghost use Rattle.a2_tests.specs.Requirements.{IsFirstMissed, Meets, MeetsAll, MeetsFirst, end_at};
 
 use crate::line::{Line, NumberedLine, following};
-use crate::rows::{holds, row_is, rows_fit};
+use crate::rows::{Rows, all_are, holds, row_has_styled, row_is, rows_fit};
 use crate::settings::{byte_of, digits_in, name_in, tight};
 use a2_asm::{Program, Statement};
 use a2_cpu::Regs;
@@ -27,6 +27,21 @@ pub(crate) struct Ending<'a, A: Allocator> {
     pub machine: &'a Machine<A>,
     pub cause: Cause,
     pub rows: &'a [&'a [u8]],
+    /// The rows of attributes, as `a2 run --attr` prints them.
+    pub marks: &'a [&'a [u8]],
+}
+
+impl<'a, A: Allocator> Ending<'a, A> {
+    /// Returns the rows of the screen with their attributes.
+    pub(crate) fn screen(&self) -> Rows<'a>
+        ensures texts { result.texts.now ≡ self.now.rows.now }
+        ensures marks { result.marks.now ≡ self.now.marks.now }
+    {
+        Rows {
+            texts: self.rows,
+            marks: self.marks,
+        }
+    }
 }
 
 /// Returns the address of a place: a number after `$`, or a name of the program.
@@ -204,7 +219,8 @@ fn is_met_by<A: Allocator + Copy>(
     rest: &[NumberedLine],
     ending: &Ending<A>,
 ) -> Result<bool, AllocError>
-    requires { map (λ x. x.now) ending.now.rows.now ≡ asked.rows_of (memory_of ending.now.machine.now.state.bus) }
+    requires rows { map (λ x. x.now) ending.now.rows.now ≡ asked.rows_of (memory_of ending.now.machine.now.state.bus) }
+    requires marks { map (λ x. x.now) ending.now.marks.now ≡ asked.marks_of (memory_of ending.now.machine.now.state.bus) }
     ensures { IfOk result (λ met. (met ≡ true) ↔ Meets line.entry rest.now ending.now.program.now
         (end_at ending.now.machine.now.state ending.now.cause)) }
 {
@@ -212,6 +228,10 @@ fn is_met_by<A: Allocator + Copy>(
         Line::Screen => Ok(rows_fit(rest, ending.rows)),
         Line::Shows(number, text) => Ok(row_is(number, text, ending.rows)),
         Line::Holds(text) => Ok(holds(ending.rows, text)),
+        Line::Styled(number, attribute, text) => {
+            Ok(row_has_styled(number, attribute, text, ending.screen()))
+        }
+        Line::Plain(attribute) => Ok(all_are(attribute, ending.marks)),
         Line::Mem(place, bytes) => Ok(has_bytes(ending, place, bytes)),
         Line::Reg(text) => Ok(settings_match(alloc, ending.machine, text)?),
         Line::Stop(cause) => Ok(is_cause(ending.cause, cause)),
@@ -229,7 +249,8 @@ fn is_met<A: Allocator + Copy>(
     lines: &[NumberedLine],
     ending: &Ending<A>,
 ) -> Result<bool, AllocError>
-    requires { map (λ x. x.now) ending.now.rows.now ≡ asked.rows_of (memory_of ending.now.machine.now.state.bus) }
+    requires rows { map (λ x. x.now) ending.now.rows.now ≡ asked.rows_of (memory_of ending.now.machine.now.state.bus) }
+    requires marks { map (λ x. x.now) ending.now.marks.now ≡ asked.marks_of (memory_of ending.now.machine.now.state.bus) }
     ensures { IfOk result (λ met. (met ≡ true) ↔ MeetsFirst lines.now ending.now.program.now
         (end_at ending.now.machine.now.state ending.now.cause)) }
 {
@@ -245,7 +266,8 @@ pub(crate) fn first_missed<A: Allocator + Copy>(
     lines: &[NumberedLine],
     ending: &Ending<A>,
 ) -> Result<Option<usize>, AllocError>
-    requires { map (λ x. x.now) ending.now.rows.now ≡ asked.rows_of (memory_of ending.now.machine.now.state.bus) }
+    requires rows { map (λ x. x.now) ending.now.rows.now ≡ asked.rows_of (memory_of ending.now.machine.now.state.bus) }
+    requires marks { map (λ x. x.now) ending.now.marks.now ≡ asked.marks_of (memory_of ending.now.machine.now.state.bus) }
     ensures { IfOk result (λ missed. MatchOption missed (MeetsAll lines.now ending.now.program.now
         (end_at ending.now.machine.now.state ending.now.cause))
         (λ n. IsFirstMissed lines.now ending.now.program.now (end_at ending.now.machine.now.state ending.now.cause) n)) }

@@ -1,11 +1,13 @@
 //! Whether the rows of a screen are the expected ones.
 
-ghost use Rattle.std.specs.Prelude.{◌≡◌, map};
+ghost use Rattle.std.specs.Prelude.{◌≡◌, map, take, drop, length, Some, None, MatchOption};
+ghost use Rattle.a2_page.specs.Text.{mark_of as mark_of_attribute};
 ghost use Rattle.std.specs.List.{list_all};
 ghost use Rattle.a2_text.specs.Bytes.{is_blank as is_blank_byte};
 ghost use Rattle.a2_tests.specs.Rows as row;
 
 use crate::line::{Line, NumberedLine, following};
+use a2_page::Attribute;
 use a2_text::is_blank;
 
 // Returns whether a text consists only of blanks.
@@ -120,4 +122,111 @@ pub(crate) fn holds(shown: &[&[u8]], part: &[u8]) -> bool
         }
     }
     false
+}
+
+/// Returns the mark of an attribute in the rows that `a2 run --attr` prints.
+pub(crate) fn mark_of(attribute: Attribute) -> u8
+    ensures { result ≡ mark_of_attribute attribute }
+{
+    match attribute {
+        Attribute::Normal => b'.',
+        Attribute::Inverse => b'I',
+        Attribute::Flashing => b'F',
+    }
+}
+
+/// Returns whether all marks are of this attribute.
+pub(crate) fn are_all(attribute: Attribute, marks: &[u8]) -> bool
+    ensures { result ≡ row.are_all attribute marks.now }
+{
+    for shown in marks {
+        if *shown != mark_of(attribute) {
+            return false;
+        }
+    }
+    true
+}
+
+/// Returns the first marks, as many as a text has characters.
+pub(crate) fn marks_for<'a>(marks: &'a [u8], text: &[u8]) -> &'a [u8]
+    ensures { result.now ≡ take (length text.now) marks.now }
+{
+    &marks[..text.len().min(marks.len())]
+}
+
+// Returns whether a text with these marks contains a part whose characters are shown like this.
+fn has_styled(attribute: Attribute, part: &[u8], marks: &[u8], text: &[u8]) -> bool
+    ensures { result ≡ row.has_styled attribute part.now marks.now text.now }
+{
+    let mut rest = text;
+    let mut shown = marks;
+    while let [_, more @ ..] = rest {
+        if rest.starts_with(part) && are_all(attribute, marks_for(shown, part)) {
+            return true;
+        }
+        rest = more;
+        shown = after_mark(shown);
+    }
+    part.is_empty()
+}
+
+// Returns the marks after the first.
+fn after_mark(marks: &[u8]) -> &[u8]
+    ensures { result.now ≡ drop 1 marks.now }
+{
+    match marks {
+        [_, more @ ..] => more,
+        [] => marks,
+    }
+}
+
+/// The rows of a screen: their characters, and the attributes of the last of them, as `a2 run --attr` prints them.
+#[derive(Clone, Copy)]
+pub(crate) struct Rows<'a> {
+    pub texts: &'a [&'a [u8]],
+    pub marks: &'a [&'a [u8]],
+}
+
+impl<'a> Rows<'a> {
+    /// Returns the marks of the row with this number, from 0 at the top, if it has any.
+    pub(crate) fn marks_at(self, number: u16) -> Option<&'a [u8]>
+        ensures { MatchOption result
+            (row.marks_at number (map (λ x. x.now) self.entry.texts.now) (map (λ x. x.now) self.entry.marks.now) ≡ None)
+            (λ shown. row.marks_at number (map (λ x. x.now) self.entry.texts.now) (map (λ x. x.now) self.entry.marks.now) ≡ Some shown.now) }
+    {
+        let end = usize::from(number) + self.marks.len();
+        if end < self.texts.len() {
+            return None;
+        }
+        match self.marks.get(end - self.texts.len()) {
+            Some(marks) => Some(*marks),
+            None => None,
+        }
+    }
+}
+
+/// Returns whether the row with this number, from 0 at the top, contains a part whose characters are shown like this.
+pub(crate) fn row_has_styled(number: u16, attribute: Attribute, part: &[u8], rows: Rows<'_>) -> bool
+    ensures { result ≡ row.row_has_styled number attribute part.now (map (λ x. x.now) rows.entry.texts.now)
+        (map (λ x. x.now) rows.entry.marks.now) }
+{
+    let Some(marks) = rows.marks_at(number) else {
+        return false;
+    };
+    match rows.texts.get(usize::from(number)) {
+        Some(text) => has_styled(attribute, part, marks, *text),
+        None => false,
+    }
+}
+
+/// Returns whether each character of a screen is shown like this.
+pub(crate) fn all_are(attribute: Attribute, marks: &[&[u8]]) -> bool
+    ensures { result ≡ list_all (row.are_all attribute) (map (λ x. x.now) marks.now) }
+{
+    for shown in marks {
+        if !are_all(attribute, *shown) {
+            return false;
+        }
+    }
+    true
 }

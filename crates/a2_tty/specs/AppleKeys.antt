@@ -1,6 +1,7 @@
 -- The keys and commands that typed bytes stand for. This project's profile; the codes of keys: Apple II Reference
 -- Manual (1979), page 7.
-use Rattle.std.specs.Prelude.{ℕ, Bool, true, false, List, [], ◌∷◌, Option, Some, None, ◌<◌, ◌==◌, nat_le, ◌&&◌, ◌||◌, if◌then◌else◌}
+use Rattle.std.specs.Prelude.{ℕ, Bool, true, false, List, [], ◌∷◌, Option, Some, None, ◌<◌, ◌==◌, nat_le, ◌&&◌, ◌||◌, if◌then◌else◌, drop}
+use Rattle.std.specs.List.{prefix_len}
 use Rattle.a2_text.specs.Bytes.{capital, is_between}
 use Rattle.a2_tty.specs.declared.apple_keys.Stroke.{Stroke}
 use Rattle.a2_tty.specs.declared.apple_keys.Stroke.TheVariants.{Key, Prefix, Order, Nothing}
@@ -44,10 +45,33 @@ is_arrow byte kind letter = (byte == 0x1B) && ((kind == 0x5B) || (kind == 0x4F))
 abbrev pub plain : ℕ → List ℕ → First
 plain byte rest = record { stroke = if byte == 0x1D then Prefix else key_of byte; rest = rest }
 
+-- the bytes after a final byte of a control sequence (ECMA-48, section 5.4)
+abbrev pub after_final : List ℕ → Option (List ℕ)
+after_final [] = None
+after_final (byte ∷ rest) = if is_between 0x40 0x7E byte then Some rest else None
+
+-- the bytes after its parameter and intermediate bytes
+abbrev pub after_parameters : List ℕ → List ℕ
+after_parameters bytes = drop (prefix_len (is_between 0x20 0x3F) bytes) bytes
+
+-- the bytes after what a terminal sends for a key, given those after its ESC: [, parameters and a final byte; or O and a final byte
+abbrev pub after_sequence : List ℕ → Option (List ℕ)
+after_sequence [] = None
+after_sequence (kind ∷ rest) =
+    if kind == 0x5B then after_final (after_parameters rest) else if kind == 0x4F then after_final rest else None
+
+-- such a key is not one of an Apple II, if it is no arrow to the left or right; without one, ESC is a key
+abbrev pub escaped : Option (List ℕ) → List ℕ → First
+escaped None rest = record { stroke = Key 0x1B; rest = rest }
+escaped (Some following) rest = record { stroke = Nothing; rest = following }
+
+abbrev pub keyed : ℕ → List ℕ → First
+keyed byte rest = if byte == 0x1B then escaped (after_sequence rest) rest else plain byte rest
+
 abbrev pub first : Bool → List ℕ → Option First
 first is_ordered [] = None
 first true (byte ∷ rest) = Some (record { stroke = order_of byte; rest = rest })
-first false (byte ∷ []) = Some (plain byte [])
-first false (byte ∷ kind ∷ []) = Some (plain byte (kind ∷ []))
+first false (byte ∷ []) = Some (keyed byte [])
+first false (byte ∷ kind ∷ []) = Some (keyed byte (kind ∷ []))
 first false (byte ∷ kind ∷ letter ∷ rest) =
-    Some (if is_arrow byte kind letter then record { stroke = arrow_of letter; rest = rest } else plain byte (kind ∷ letter ∷ rest))
+    Some (if is_arrow byte kind letter then record { stroke = arrow_of letter; rest = rest } else keyed byte (kind ∷ letter ∷ rest))

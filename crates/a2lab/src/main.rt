@@ -15,7 +15,7 @@ use a2_run::RunFault;
 use a2_stream::{FromRead, Output, ToWrite};
 use a2lab_commands::{Host, Message, Terminals, report, report_fault};
 use clock::HostClock;
-use program::{draws, obey, writes_at_once};
+use program::{draws, draws_session, obey, writes_at_once};
 use shown::Shown;
 use std::io::{BufWriter, IsTerminal, Write};
 use std::process::ExitCode;
@@ -63,9 +63,8 @@ fn finish<W: Write + Drop>(status: u8, lines: &mut BufWriter<W>) -> Result<u8, R
 // Does what the arguments ask for. In a session each answer is written at once. Otherwise many lines are written together, and the errors
 // after all output, so that they are the last lines of a terminal. A terminal on which a session draws is given all bytes.
 fn act(rt: &HostRuntime, words: &[String]) -> Result<u8, RunFault> {
-    let is_drawn = draws(words);
-    let is_output_shown = rt.stdout().is_terminal() && !is_drawn;
-    let are_complaints_shown = rt.stderr().is_terminal() && !is_drawn;
+    let is_output_shown = rt.stdout().is_terminal() && !draws(words);
+    let are_complaints_shown = rt.stderr().is_terminal() && !draws_session(words);
     if writes_at_once(words) {
         return Ok(obeyed(
             rt,

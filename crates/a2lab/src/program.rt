@@ -8,15 +8,17 @@ use a2_manual::{manual, near, topic};
 use a2_play::Clock;
 use a2_run::RunFault;
 use a2_stream::{Input, Output, put};
+use a2lab_bytes::{diff_of, object_of, source_of};
 use a2lab_commands::{
     CommandArgs, CommandRow, Host, Message, Refusal, Terminal, Terminals, Tool, Value, after_first,
     command_named, nearest_command, put_page, put_use, report, report_arguments, report_fault,
     terminal_in,
 };
+use a2lab_editors::{dap_of, lsp_of};
 use a2lab_promises::promise_of;
 use a2lab_reports::{film_of, profile_of, run_of, test_of, trace_of};
 use a2lab_sessions::{debug_of, mon_of, play_of};
-use a2lab_sources::{check_of, fmt_of, import_of, list_of};
+use a2lab_sources::{check_of, expand_of, fmt_of, import_of, list_of};
 use std::alloc::{AllocError, Global};
 
 // Reports an unknown command and which one may be meant, and returns the exit status.
@@ -111,13 +113,19 @@ fn act<'a, S: Shelf, D: Desk, C: Clock, R: Input, W: Output, E: Output>(
     match tool {
         Tool::Help => help(given, host),
         Tool::Check => check_of(given, host),
+        Tool::Dap => dap_of(given, host),
         Tool::List => list_of(given, host),
+        Tool::Object => object_of(given, host),
+        Tool::Diff => diff_of(given, host),
         Tool::Test => test_of(given, host),
         Tool::Promise => promise_of(given, host),
+        Tool::Lsp => lsp_of(given, host),
         Tool::Mon => mon_of(given, host),
         Tool::Play => play_of(given, host),
         Tool::Fmt => fmt_of(given, host),
+        Tool::Expand => expand_of(given, host),
         Tool::Import => import_of(given, host),
+        Tool::Source => source_of(given, host),
         Tool::Debug => debug_of(given, host),
         Tool::Film => film_of(given, host),
         Tool::Run => run_of(given, host),
@@ -176,11 +184,16 @@ fn run_command<S: Shelf, D: Desk, C: Clock, R: Input, W: Output, E: Output>(
 ) -> u8
     ensures { result ≤ 6 }
 {
-    if !is_session(row.tool) {
+    if !draws_at_terminal(row.tool) {
         return run_with(row, words, seat, None, host);
     }
     let (terminal, words) = terminal_in(words);
     run_with(row, words, seat, terminal, host)
+}
+
+// Returns whether a command may draw on its terminal.
+fn draws_at_terminal(tool: Tool) -> bool {
+    is_session(tool) || matches!(tool, Tool::Run)
 }
 
 // Returns whether a command holds a session.
@@ -199,20 +212,38 @@ fn tool_in(words: &[String]) -> Option<Tool> {
     }
 }
 
-/// Returns whether what `words` ask for is written at once: the answers of a session, and what `promise` finds, which may take minutes.
+/// Returns whether what `words` ask for is written at once: the answers of a session and to an editor, and what `promise` finds, which may
+/// take minutes.
 /// The first of `words` is the program's name.
 pub fn writes_at_once(words: &[String]) -> bool {
     match tool_in(words) {
-        Some(tool) => is_session(tool) || matches!(tool, Tool::Promise),
+        Some(tool) => is_session(tool) || matches!(tool, Tool::Promise | Tool::Lsp | Tool::Dap),
+        None => false,
+    }
+}
+
+// Returns the command of `words` if its terminal is described after it.
+fn drawing_tool(words: &[String]) -> Option<Tool> {
+    match (tool_in(words), words) {
+        (Some(tool), [_, _, raw, ..]) if raw.as_str() == "--raw" => Some(tool),
+        _ => None,
+    }
+}
+
+/// Returns whether `words` draw on their terminal: a session, or the screen of a run, whose output has no text of a file. The first of
+/// `words` is the program's name.
+pub fn draws(words: &[String]) -> bool {
+    match drawing_tool(words) {
+        Some(tool) => draws_at_terminal(tool),
         None => false,
     }
 }
 
 /// Returns whether `words` begin a session that draws on its terminal. The first of `words` is the program's name.
-pub fn draws(words: &[String]) -> bool {
-    match (tool_in(words), words) {
-        (Some(tool), [_, _, raw, ..]) => is_session(tool) && raw.as_str() == "--raw",
-        _ => false,
+pub fn draws_session(words: &[String]) -> bool {
+    match drawing_tool(words) {
+        Some(tool) => is_session(tool),
+        None => false,
     }
 }
 

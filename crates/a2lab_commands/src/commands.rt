@@ -6,9 +6,9 @@
 ghost use Rattle.std.specs.Prelude.{◌≡◌, IfSome};
 
 use crate::options::{
-    CHECK_OPTIONS, DEBUG_OPTIONS, FILM_OPTIONS, FMT_OPTIONS, IMPORT_OPTIONS, LIST_OPTIONS,
-    MON_OPTIONS, PLAY_OPTIONS, PROFILE_OPTIONS, PROMISE_OPTIONS, RUN_OPTIONS, TEST_OPTIONS,
-    TRACE_OPTIONS,
+    CHECK_OPTIONS, DEBUG_OPTIONS, DIFF_OPTIONS, EXPAND_OPTIONS, FILM_OPTIONS, FMT_OPTIONS,
+    IMPORT_OPTIONS, LIST_OPTIONS, MON_OPTIONS, OBJECT_OPTIONS, PLAY_OPTIONS, PROFILE_OPTIONS,
+    PROMISE_OPTIONS, RUN_OPTIONS, SOURCE_OPTIONS, TEST_OPTIONS, TRACE_OPTIONS,
 };
 use a2_arguments::{Command, Files};
 
@@ -16,17 +16,23 @@ use a2_arguments::{Command, Files};
 #[derive(Clone, Copy, Debug, PartialEq, Eq)]
 pub enum Tool {
     Check,
+    Dap,
     Debug,
+    Diff,
+    Expand,
     Film,
     Fmt,
     Help,
     Import,
     List,
+    Lsp,
     Mon,
+    Object,
     Play,
     Profile,
     Promise,
     Run,
+    Source,
     Test,
     Trace,
 }
@@ -54,6 +60,22 @@ const NAMED_SOURCE: Files = Files {
     most: 1,
 };
 
+// The command is given no file.
+const NO_FILES: Files = Files {
+    form: "",
+    endings: "",
+    least: 0,
+    most: 0,
+};
+
+// The source or the image of a command that can read it from standard input.
+const ONE_IMAGE: Files = Files {
+    form: "[F]",
+    endings: "",
+    least: 0,
+    most: 1,
+};
+
 const SOURCES: Files = Files {
     form: "[F..]",
     endings: ".s",
@@ -77,12 +99,19 @@ const WANT_LINES: &str = "WANT has lines of these forms:
 
   case NAME                begins a case
   keys K                   types the keys K, as --keys K does
+  keys-at N:K              types the keys K after N steps
+  replay T                 types the keys of the recorded session T
+  free                     runs without the guard, as --free does
   limit N                  stops the run after N steps
   call NAME A=05 $320=07   calls the routine NAME with these bytes
   screen                   the rows of the screen are on the next lines
   |TEXT                    a row of the screen, after a line screen
   screen row 0 = \"TEXT\"    a row of the screen is TEXT; the top row is 0
   screen holds \"TEXT\"      some row of the screen contains TEXT
+  screen row 0 is inverse \"TEXT\"
+                           a row contains TEXT, and shows it inverse; normal
+                           and flashing likewise
+  screen is normal         all characters of the screen are shown normal
   mem $320 = A9 01         memory holds these bytes at the end
   reg A=E9 X=00            registers hold these bytes at the end
   stop RETURNED            the run stops with this cause
@@ -96,7 +125,7 @@ more.
 ";
 
 /// All commands, in the order of the help page.
-static TOOLS: [Tool; 14] = [
+static TOOLS: [Tool; 20] = [
     Tool::Run,
     Tool::Check,
     Tool::List,
@@ -104,12 +133,18 @@ static TOOLS: [Tool; 14] = [
     Tool::Profile,
     Tool::Film,
     Tool::Fmt,
+    Tool::Expand,
     Tool::Import,
+    Tool::Source,
+    Tool::Object,
+    Tool::Diff,
     Tool::Test,
     Tool::Promise,
     Tool::Mon,
     Tool::Play,
     Tool::Debug,
+    Tool::Dap,
+    Tool::Lsp,
     Tool::Help,
 ];
 
@@ -206,6 +241,19 @@ fn fmt_row() -> CommandRow {
     }
 }
 
+fn expand_row() -> CommandRow {
+    CommandRow {
+        tool: Tool::Expand,
+        command: Command {
+            name: "expand",
+            summary: "prints F, a source in the larger language, as a plain source",
+            files: ONE_SOURCE,
+            options: &EXPAND_OPTIONS,
+            notes: "",
+        },
+    }
+}
+
 fn import_row() -> CommandRow {
     CommandRow {
         tool: Tool::Import,
@@ -215,6 +263,58 @@ fn import_row() -> CommandRow {
             files: ONE_SOURCE,
             options: &IMPORT_OPTIONS,
             notes: "What changed in F, and what could not be converted, goes to standard error.
+",
+        },
+    }
+}
+
+fn source_row() -> CommandRow {
+    CommandRow {
+        tool: Tool::Source,
+        command: Command {
+            name: "source",
+            summary: "writes a source that has the bytes of F, a dump or any file",
+            files: Files {
+                form: "[F]",
+                endings: "",
+                least: 0,
+                most: 1,
+            },
+            options: &SOURCE_OPTIONS,
+            notes: "An address A or B is 300 or '$300'. A..B may be one address.
+",
+        },
+    }
+}
+
+fn object_row() -> CommandRow {
+    CommandRow {
+        tool: Tool::Object,
+        command: Command {
+            name: "object",
+            summary: "writes the bytes of F for another program, or as a tape",
+            files: ONE_IMAGE,
+            options: &OBJECT_OPTIONS,
+            notes: "F is a source, or a file of one of the formats.
+",
+        },
+    }
+}
+
+fn diff_row() -> CommandRow {
+    CommandRow {
+        tool: Tool::Diff,
+        command: Command {
+            name: "diff",
+            summary: "shows the instructions in which two files differ",
+            files: Files {
+                form: "F F",
+                endings: "",
+                least: 2,
+                most: 2,
+            },
+            options: &DIFF_OPTIONS,
+            notes: "F is a source, or a file of one of the formats of a2lab object.
 ",
         },
     }
@@ -306,6 +406,35 @@ fn debug_row() -> CommandRow {
     }
 }
 
+fn dap_row() -> CommandRow {
+    CommandRow {
+        tool: Tool::Dap,
+        command: Command {
+            name: "dap",
+            summary: "debugs a run for an editor, by the Debug Adapter Protocol",
+            files: NO_FILES,
+            options: &[],
+            notes: "An editor starts this command, and names the source in its launch request.
+",
+        },
+    }
+}
+
+fn lsp_row() -> CommandRow {
+    CommandRow {
+        tool: Tool::Lsp,
+        command: Command {
+            name: "lsp",
+            summary: "shows errors and more in an editor, by the Language Server Protocol",
+            files: NO_FILES,
+            options: &[],
+            notes: "An editor starts this command and speaks to it on standard input and output.
+editors/README.md says how to set up an editor.
+",
+        },
+    }
+}
+
 fn help_row() -> CommandRow {
     CommandRow {
         tool: Tool::Help,
@@ -328,17 +457,23 @@ fn help_row() -> CommandRow {
 pub fn row_of(tool: Tool) -> CommandRow {
     match tool {
         Tool::Check => check_row(),
+        Tool::Dap => dap_row(),
         Tool::Debug => debug_row(),
+        Tool::Diff => diff_row(),
+        Tool::Expand => expand_row(),
         Tool::Film => film_row(),
         Tool::Fmt => fmt_row(),
         Tool::Help => help_row(),
         Tool::Import => import_row(),
         Tool::List => list_row(),
+        Tool::Lsp => lsp_row(),
         Tool::Mon => mon_row(),
+        Tool::Object => object_row(),
         Tool::Play => play_row(),
         Tool::Profile => profile_row(),
         Tool::Promise => promise_row(),
         Tool::Run => run_row(),
+        Tool::Source => source_row(),
         Tool::Test => test_row(),
         Tool::Trace => trace_row(),
     }

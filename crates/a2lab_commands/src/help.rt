@@ -146,11 +146,16 @@ pub fn put_usage<W: Output>(command: &Command, writer: &mut W) -> Result<(), Wri
     } else {
         b" [OPTIONS]"
     };
+    let gap: &[u8] = if command.files.form.is_empty() {
+        b""
+    } else {
+        b" "
+    };
     let parts: [&[u8]; 5] = [
         b"a2lab ",
         command.name.as_bytes(),
         options,
-        b" ",
+        gap,
         command.files.form.as_bytes(),
     ];
     put_all(&parts, writer)

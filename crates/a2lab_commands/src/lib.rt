@@ -9,6 +9,7 @@ mod commands;
 mod complaint;
 mod drafts;
 mod ending;
+mod expanding;
 mod fault_report;
 mod files;
 mod help;
@@ -28,6 +29,9 @@ pub use commands::{CommandRow, Tool, all_commands, command_named, row_of};
 pub use complaint::report_arguments;
 pub use drafts::settled;
 pub use ending::{end_status, put_end_state, stop_status};
+pub use expanding::{
+    Expanded, Reading, expanded_text_of, expansion_of, reading_of, report_origins,
+};
 pub use fault_report::{report_fault, report_write};
 pub use files::{loaded_text, long_text, refuse_overwriting_input, text_of};
 pub use help::{put_page, put_use};
@@ -38,6 +42,6 @@ pub use naming::nearest_command;
 pub use refusal::Refusal;
 pub use terminals::{Terminal, Terminals, colours_named, terminal_in};
 pub use timed::{
-    Recording, TimedRunArgs, ended_of, first_named, record_in, report_untyped, strokes_of,
+    Recording, TimedRunArgs, end_of, ended_of, first_named, record_in, report_untyped, strokes_of,
     timed_run_args, typed_refusal,
 };

@@ -19,12 +19,17 @@ pub enum Message {
     UnknownPlace,
     PartOutsideRam,
     ImageOverwrites,
+    PictureOverwrites,
     KeysAtForm,
     KeysAtKeys,
     KeysAtFull,
     KeysAtUntyped,
     RecordLine,
     RecordOfAnotherSource,
+    SessionUnread,
+    SessionLine,
+    SessionTooLong,
+    SessionWithLine,
     ReplayWithOption,
     SessionNotReached,
     CallsWithOption,
@@ -34,6 +39,13 @@ pub enum Message {
     NoPromise,
     NoFailure,
     FilmOverwrites,
+    ObjectOverwrites,
+    NotFill,
+    LongFileForDisk,
+    NoSuchFileOnDisk,
+    SeveralFilesOnDisk,
+    NotAddress,
+    PlainWithoutAddress,
     CannotLayOut,
     CheckWithWrite,
     SeveralFiles,
@@ -46,6 +58,17 @@ pub enum Message {
     SmallTerminal,
     PanesWithoutTerminal,
     SmallTerminalForPanes,
+    NoEditorMessage,
+    SourceAddress,
+    SourceSpan,
+    SourceTooLarge,
+    SourceNames,
+    SourceWithoutCode,
+    SourceSameName,
+    SourceUnlike,
+    DumpLine,
+    DumpAddress,
+    DumpOutside,
 }
 
 /// The most keys that can wait.
@@ -81,6 +104,7 @@ fn sentence(message: Message) -> &'static str {
             "@ @: unknown place; write $300, a name such as LOOP, LOOP+2, a line such as 12:, or two of these with .. between them, the lower one first",
         Message::PartOutsideRam => "run: --mem @: expected places in RAM, which ends at $BFFF",
         Message::ImageOverwrites => "run: the image would overwrite @; give --save another name",
+        Message::PictureOverwrites => "run: the picture would overwrite @; give --png another name",
         Message::KeysAtForm =>
             "@: --keys-at @: expected a number of steps from 0 to 100000000, a colon and keys, such as 1200:HI\\r",
         Message::KeysAtKeys =>
@@ -93,6 +117,14 @@ fn sentence(message: Message) -> &'static str {
             "--replay @, line @: expected a number of steps and the code of a key, as in 1200 41; the last line is as in 2000 END",
         Message::RecordOfAnotherSource =>
             "@: --replay @: this is a recording of another source; give the source that was played",
+        Message::SessionUnread =>
+            "@: @, line @: cannot read the recording @; its name is relative to the folder of this file",
+        Message::SessionLine =>
+            "@: @, line @: @, line @: expected a number of steps and the code of a key, as in 1200 41; the last line is as in 2000 END",
+        Message::SessionTooLong =>
+            "@: @, line @: the recording @ has more than @ steps, or a key after them; record a shorter session",
+        Message::SessionWithLine =>
+            "@: @, line @: replay @ cannot be combined with line @ in one case, because a session is repeated with its own keys and with the guard; leave out one of the two lines",
         Message::ReplayWithOption =>
             "--replay cannot be combined with @, because a session is repeated with its own keys and with the guard; leave @ out",
         Message::SessionNotReached =>
@@ -108,6 +140,19 @@ fn sentence(message: Message) -> &'static str {
             "promise: @ has no promises; write lines such as `;: ensures A = old A + 1` before a label (a2lab help promise)",
         Message::NoFailure => "promise: no routine failed, so the film @ was not written",
         Message::FilmOverwrites => "promise: the film would overwrite @; give --film another name",
+        Message::ObjectOverwrites => "object: the output would overwrite @; give it another name",
+        Message::NotFill =>
+            "object: --fill @: expected a byte of one or two hexadecimal digits, such as 00",
+        Message::LongFileForDisk =>
+            "object: --dsk @: the file has more bytes than a disk holds; write it in parts",
+        Message::NoSuchFileOnDisk =>
+            "@: the disk has no binary file @; the lines above name those that it has",
+        Message::SeveralFilesOnDisk =>
+            "@: the disk has no binary file or several, which the lines above name; name one, as in @:HELLO",
+        Message::NotAddress =>
+            "@: --at @: expected an address of one to four hexadecimal digits, such as 300",
+        Message::PlainWithoutAddress =>
+            "@: --from raw: plain bytes have no address; give it, such as --at 300",
         Message::CannotLayOut =>
             "fmt: @: unchanged, because in columns it would be longer than 65536 bytes or would no longer mean the same; split the file, or lay it out by hand",
         Message::CheckWithWrite => "fmt: --check and -w cannot be combined; give one of them",
@@ -128,6 +173,28 @@ fn sentence(message: Message) -> &'static str {
             "debug: --tui: standard input, output and error must be a terminal; leave --tui out to use files or pipes",
         Message::SmallTerminalForPanes =>
             "debug: --tui: the terminal has @x@ characters; make it at least 80x24",
+        Message::NoEditorMessage =>
+            "@: @; this command answers an editor, which starts it (a2lab help @)",
+        Message::SourceAddress =>
+            "source: @ @: expected an address from 0 to BFFF in hexadecimal digits, such as 300",
+        Message::SourceSpan =>
+            "source: @ @: expected an address from 0 to BFFF, or two with .. between them, the lower one first, such as 300..3FF",
+        Message::SourceTooLarge =>
+            "source: @: the source would have at least @ lines and @ bytes, and the most are 4096 lines and 65536 bytes; write a part of it with --only, such as --only 300..AFF",
+        Message::SourceNames =>
+            "source: @: the source would have more than 1024 names; write a part of it with --only, such as --only 300..AFF",
+        Message::SourceWithoutCode =>
+            "source: @: no instruction begins at an entry, and a source needs one; give --entry an address where code begins",
+        Message::SourceSameName =>
+            "source: @: two addresses would have the same name; give each name once in the file of --names, and none such as L0300, SUB0300, D0300 or W0006",
+        Message::SourceUnlike =>
+            "source: @: no source was found that has these bytes; please report it",
+        Message::DumpLine =>
+            "source: @, line @: expected an address and bytes, such as 0300- A9 C1 or 300:A9 C1; for a file of bytes, give --at the address of its first byte",
+        Message::DumpAddress =>
+            "source: @, line @: the first bytes need an address, such as 300:A9 C1",
+        Message::DumpOutside =>
+            "source: @, line @: a byte would be at or above $C000, where RAM ends; remove it",
     }
 }
 

@@ -93,6 +93,9 @@ pub const MEM: OptionRow = row!(Texts "--mem" "P..P",
 pub const SAVE: OptionRow = row!(Text "--save" "IMAGE" or "",
     "Writes all of RAM after the run to the file IMAGE, as object lines.");
 
+pub const PNG: OptionRow = row!(Text "--png" "FILE" or "",
+    "Writes the screen after the run to FILE, as a picture in PNG format.");
+
 pub const LAST: OptionRow = row!(Number "--last" "N" 0 to 100_000_000 or "",
     "Prints the last N steps on standard error, as trace does.");
 
@@ -109,6 +112,11 @@ pub const CYCLES: OptionRow = row!(Flag "--cycles",
 
 pub const NAMES: OptionRow = row!(Flag "--names",
     "Adds at the end a table of the names: the line that defines each, and those that use it.");
+
+// Options of `expand`.
+
+pub const LINES: OptionRow = row!(Flag "--lines",
+    "Shows before each line the line of F that it comes from; + means that it is in a macro.");
 
 // Options of `trace`.
 
@@ -170,10 +178,63 @@ pub const DIALECT: OptionRow =
     row!(OneOf "--from" "WHAT" ["auto", "sc", "lisa", "merlin", "edasm", "ca65", "listing"] or "auto",
     "Says what F is: a source for this assembler, or a listing of the Monitor; auto finds it out from the text.");
 
+// Options of `source`.
+
+pub const ENTRY: OptionRow = row!(Texts "--entry" "A",
+    "Says that code begins at address A; the default is the address of a G in F, or the lowest address.");
+
+pub const CODE: OptionRow = row!(Texts "--code" "A..B",
+    "Says that instructions are from address A to address B.");
+
+pub const DATA: OptionRow = row!(Texts "--data" "A..B",
+    "Says that bytes are from address A to address B.");
+
+pub const TEXT: OptionRow = row!(Texts "--text" "A..B",
+    "Says that characters are from address A to address B.");
+
+pub const WORDS: OptionRow = row!(Texts "--words" "A..B",
+    "Says that words, each of two bytes, are from address A to address B.");
+
+pub const SOURCE_NAMES: OptionRow = row!(Text "--names" "N" or "",
+    "Takes names from the file N, a source, in which lines such as SCORE EQU $1F give them to addresses.");
+
+pub const SOURCE_ONLY: OptionRow = row!(Text "--only" "A..B" or "",
+    "Writes only the bytes from address A to address B.");
+
+pub const RUN: OptionRow = row!(Flag "--run",
+    "Runs F from its first entry without a guard; what is executed is code.");
+// Options of `object` and `diff`; AT is one of `source` too.
+
+pub const OBJECT_FORMAT: OptionRow =
+    row!(OneOf "--format" "FORMAT" ["object", "monitor", "hex", "srec", "dos", "raw", "applesingle"] or "object",
+    "Writes object lines or Monitor lines, Intel HEX, S-records, a DOS 3.3 binary file, plain bytes, or AppleSingle.");
+
+pub const FROM: OptionRow =
+    row!(OneOf "--from" "WHAT" ["auto", "source", "object", "monitor", "hex", "srec", "dos", "raw", "applesingle"] or "auto",
+    "Says what F is; auto finds it out from what is in F.");
+
+pub const AT: OptionRow = row!(Text "--at" "A" or "",
+    "Says that F is plain bytes, the first of which is at address A, such as 300.");
+
+pub const FILL: OptionRow = row!(Text "--fill" "XX" or "",
+    "Writes the byte XX at each address between others that has none, such as 00.");
+
+pub const WIDTH: OptionRow = row!(OneOf "--width" "N" ["8", "23"] or "8",
+    "Writes at most N bytes in a Monitor line.");
+
+pub const OBJECT_OUT: OptionRow = row!(Text "-o" "OUT" or "",
+    "Writes to the file OUT.");
+
+pub const TAPE: OptionRow = row!(Text "--tape" "WAV" or "",
+    "Writes the sound of a tape to the file WAV, and prints the Monitor line that reads it.");
+
+pub const DISK: OptionRow = row!(Text "--dsk" "DSK" or "",
+    "Writes a disk of DOS 3.3 with this one binary file, and without DOS, to the file DSK.");
+
 // Options of `test`.
 
 pub const TEST_FORMAT: OptionRow =
-    row!(OneOf "--format" "FORMAT" ["table", "csv", "json", "junit"] or "table",
+    row!(OneOf "--format" "FORMAT" ["table", "csv", "json", "junit", "html"] or "table",
     "Writes the results in this format.");
 
 // Options of `promise`.
@@ -213,8 +274,8 @@ pub const DEBUGGER_PLAIN: OptionRow = row!(Flag "--plain",
 pub const KEEP: OptionRow = row!(Number "--keep" "N" 20 to 100_000_000 or "540",
     "Keeps at most N copies of the machine, 124 KB each, for going back.");
 
-pub static RUN_OPTIONS: [OptionRow; 9] = [
-    KEYS, LIMIT, FREE, ATTRIBUTES, MEM, SAVE, LAST, KEYS_AT, REPLAY,
+pub static RUN_OPTIONS: [OptionRow; 10] = [
+    KEYS, LIMIT, FREE, ATTRIBUTES, MEM, SAVE, PNG, LAST, KEYS_AT, REPLAY,
 ];
 
 pub static CHECK_OPTIONS: [OptionRow; 1] = [CHECK_FORMAT];
@@ -241,7 +302,37 @@ pub static FILM_OPTIONS: [OptionRow; 9] = [
 
 pub static FMT_OPTIONS: [OptionRow; 2] = [CHECK, WRITE];
 
+pub static EXPAND_OPTIONS: [OptionRow; 1] = [LINES];
+
 pub static IMPORT_OPTIONS: [OptionRow; 1] = [DIALECT];
+
+pub static SOURCE_OPTIONS: [OptionRow; 12] = [
+    FROM,
+    AT,
+    ENTRY,
+    CODE,
+    DATA,
+    TEXT,
+    WORDS,
+    SOURCE_NAMES,
+    SOURCE_ONLY,
+    RUN,
+    KEYS,
+    LIMIT,
+];
+
+pub static OBJECT_OPTIONS: [OptionRow; 8] = [
+    OBJECT_FORMAT,
+    FILL,
+    WIDTH,
+    OBJECT_OUT,
+    TAPE,
+    DISK,
+    FROM,
+    AT,
+];
+
+pub static DIFF_OPTIONS: [OptionRow; 2] = [FROM, AT];
 
 pub static TEST_OPTIONS: [OptionRow; 1] = [TEST_FORMAT];
 

@@ -123,8 +123,8 @@ pub fn record_in<'a, S: Shelf, D, C, R, W, E: Output>(
     }
 }
 
-// Returns how many steps a recorded session ran, if its keys were typed in these steps and a run can have as many.
-fn end_of(record: &Record) -> Option<u32> {
+/// Returns how many steps a recorded session ran, if its keys were typed in these steps and a run can have as many.
+pub fn end_of(record: &Record) -> Option<u32> {
     for typed in record.log.as_slice() {
         if typed.steps > record.end {
             return None;

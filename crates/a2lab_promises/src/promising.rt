@@ -5,13 +5,14 @@ ghost use Rattle.std.specs.Prelude.{◌≤◌, IfOk};
 use crate::failing::film_first;
 use a2_arguments::Arguments;
 use a2_host::{Desk, Shelf};
-use a2_promise_try::{Judgement, Trials, judge_all};
+use a2_promise_try::{Asked, Judgement, Trials, judge_all, run_cases};
 use a2_stream::{Input, Output};
 use a2lab_commands::options::{FILM, STATES};
 use a2lab_commands::{
-    CommandArgs, Host, Message, Refusal, Value, assembled_text, refuse_overwriting_input, report,
-    text_of,
+    CommandArgs, Host, Message, Refusal, Value, assembled_text, expanded_text_of,
+    refuse_overwriting_input, report,
 };
+use a2lab_reports::read_sessions;
 
 // How many states are tried without `--states`.
 const TRIALS: Trials = Trials {
@@ -70,10 +71,25 @@ pub fn promise_of<'a, S: Shelf, D: Desk, C, R: Input, W: Output, E: Output>(
     let file = given.arguments.file();
     refuse_overwriting_input(Message::FilmOverwrites, wish.page, file, &host.desk)?;
     let alloc = host.alloc;
-    let text = text_of(alloc, file, &mut host.shelf, &mut host.input)?;
+    let text = expanded_text_of(
+        alloc,
+        file,
+        &mut host.shelf,
+        &mut host.input,
+        &mut host.complaints,
+    )?;
     let assembled = assembled_text(alloc, file, text.as_slice(), &mut host.complaints)?;
-    let judgement = judge_all(alloc, &assembled, wish.trials, &mut host.output)?;
     let name = file.unwrap_or("-");
+    let mut runs = run_cases(alloc, text.as_slice())?;
+    let unread = read_sessions("promise", name, &mut runs, host)?;
+    if unread > 0 {
+        return Ok(unread);
+    }
+    let asked = Asked {
+        trials: wish.trials,
+        runs: runs.as_slice(),
+    };
+    let judgement = judge_all(alloc, &assembled, asked, &mut host.output)?;
     let (title, first) = (name.as_bytes(), judgement.first.as_ref());
     film_first(&assembled, title, first, wish.page, host)?;
     Ok(status_of(name, &judgement, &mut host.complaints))

@@ -14,7 +14,8 @@ use a2_timed_keys::Ended;
 use a2lab_commands::options::{FILM_FROM, FILM_LIMIT, PAGE, SCRIPT, STEPS};
 use a2lab_commands::{
     CommandArgs, Host, Message, Refusal, TimedRunArgs, Value, assembled_text, ended_of,
-    refuse_overwriting_input, report, settled, stop_status, text_of, timed_run_args,
+    expanded_text_of, refuse_overwriting_input, report, settled, stop_status, text_of,
+    timed_run_args,
 };
 use std::alloc::Global;
 
@@ -172,7 +173,13 @@ pub fn film_of<'a, S: Shelf, D: Desk, C, R: Input, W: Output, E: Output>(
     let message = Message::PageOverwrites;
     refuse_overwriting_input(message, asked.page, file, &host.desk)?;
     refuse_overwriting_input(message, asked.page, asked.script, &host.desk)?;
-    let text = text_of(alloc, file, &mut host.shelf, &mut host.input)?;
+    let text = expanded_text_of(
+        alloc,
+        file,
+        &mut host.shelf,
+        &mut host.input,
+        &mut host.complaints,
+    )?;
     let script = match asked.script {
         Some(_) => text_of(alloc, asked.script, &mut host.shelf, &mut host.input)?,
         None => Vec::new(alloc),

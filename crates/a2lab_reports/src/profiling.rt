@@ -15,8 +15,8 @@ use a2_stream::{Input, Output, put_all};
 use a2_text::decimal;
 use a2lab_commands::options::{BY, PROFILE_FORMAT, PROFILE_KEYS};
 use a2lab_commands::{
-    CommandArgs, Host, Refusal, TimedRunArgs, assembled_text, ended_of, keys_in, stop_status,
-    text_of, timed_run_args, typed_refusal,
+    CommandArgs, Host, Refusal, TimedRunArgs, assembled_text, ended_of, expanded_text_of, keys_in,
+    stop_status, timed_run_args, typed_refusal,
 };
 use std::alloc::Global;
 
@@ -160,7 +160,13 @@ pub fn profile_of<'a, S: Shelf, D, C, R: Input, W: Output, E: Output>(
     let asked = profile_args(host.alloc, given.arguments)?;
     let timed = timed_run_args(given, host)?;
     let (alloc, file) = (host.alloc, timed.run.file);
-    let text = text_of(alloc, file, &mut host.shelf, &mut host.input)?;
+    let text = expanded_text_of(
+        alloc,
+        file,
+        &mut host.shelf,
+        &mut host.input,
+        &mut host.complaints,
+    )?;
     let assembled = assembled_text(alloc, file, text.as_slice(), &mut host.complaints)?;
     check_recording(alloc, assembled.program(), &timed, &mut host.complaints)?;
     let causes = match profile(alloc, &assembled, &timed, &asked, &mut host.output) {

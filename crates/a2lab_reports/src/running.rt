@@ -2,7 +2,8 @@
 
 ghost use Rattle.std.specs.Prelude.{◌≤◌, IfOk};
 
-use crate::saving::machine_into;
+use crate::drawing::put_screen;
+use crate::saving::{machine_into, picture_into};
 use crate::spans::span_in;
 use a2_arguments::Arguments;
 use a2_asm::Program;
@@ -10,15 +11,15 @@ use a2_explain::explain_stop;
 use a2_host::{Desk, Shelf};
 use a2_machine::{Cause, Machine};
 use a2_memory::{Part, write_parts};
-use a2_page::{print, print_attributes};
 use a2_run::{AssembledText, RunFault};
-use a2_stream::{Input, Output, WriteFault};
+use a2_stream::{Input, Output};
 use a2_timed_keys::Ended;
 use a2_trace::{Choice, trace_source};
-use a2lab_commands::options::{ATTRIBUTES, LAST, MEM, SAVE};
+use a2lab_commands::options::{ATTRIBUTES, LAST, MEM, PNG, SAVE};
 use a2lab_commands::{
-    CommandArgs, Host, Message, Refusal, TimedRunArgs, assembled_text, end_status, ended_of,
-    put_end_state, refuse_overwriting_input, report_fault, text_of, timed_run_args,
+    CommandArgs, Host, Message, Refusal, Terminal, TimedRunArgs, assembled_text, end_status,
+    ended_of, expanded_text_of, put_end_state, refuse_overwriting_input, report_fault,
+    timed_run_args,
 };
 use a2lab_sources::put_warnings_of;
 use std::alloc::Global;
@@ -35,12 +36,16 @@ fn part_in<'a>(program: &Program<Global>, text: &'a str) -> Result<Part, Refusal
 /// What the options of `run` ask for during the run and after it.
 #[derive(Drop)]
 pub struct AfterRun<'a> {
+    /// The terminal on which the screen is drawn in colour, if it is.
+    pub terminal: Option<Terminal>,
     /// Whether it is printed how each character is shown.
     pub attributes: bool,
     /// The parts of memory to print.
     pub parts: Vec<Part>,
     /// The file to which all of RAM is written.
     pub image: Option<&'a str>,
+    /// The file to which the screen is written as a picture.
+    pub picture: Option<&'a str>,
     /// How many of the last steps are printed.
     pub last: Option<u32>,
 }
@@ -67,12 +72,15 @@ fn parts_of<'a>(
 fn after_run_of<'a>(
     alloc: Global,
     program: &Program<Global>,
-    arguments: &Arguments<'a>,
+    given: &CommandArgs<'_, 'a>,
 ) -> Result<AfterRun<'a>, Refusal<'a>> {
+    let arguments = given.arguments;
     Ok(AfterRun {
+        terminal: given.terminal,
         attributes: arguments.has(&ATTRIBUTES),
         parts: parts_of(alloc, program, arguments)?,
         image: arguments.text(&SAVE),
+        picture: arguments.text(&PNG),
         last: arguments.number(&LAST),
     })
 }
@@ -93,7 +101,31 @@ fn report_last_steps<E: Output>(
     let _ = trace_source(alloc, ended, &choice, complaints);
 }
 
-// Saves and prints the memory that a run left, as the options ask for it, and returns the greatest exit status, at least `status`.
+// Saves what a run left as the options ask for it, and returns the greatest exit status, at least `status`.
+fn save<S, D: Desk, C, R, W, E: Output>(
+    machine: &Machine<Global>,
+    status: u8,
+    asked: &AfterRun<'_>,
+    host: &mut Host<S, D, C, R, W, E>,
+) -> u8
+    requires { status ≤ 5 }
+    ensures { result ≤ 5 }
+{
+    let mut greatest = status;
+    if let Some(image) = asked.image {
+        if let Err(fault) = machine_into(host.alloc, machine, image, &mut host.desk) {
+            greatest = greatest.max(report_fault(fault, &mut host.complaints));
+        }
+    }
+    if let Some(picture) = asked.picture {
+        if let Err(fault) = picture_into(machine, picture, &mut host.desk) {
+            greatest = greatest.max(report_fault(fault, &mut host.complaints));
+        }
+    }
+    greatest
+}
+
+// Saves and prints what a run left, as the options ask for it, and returns the greatest exit status, at least `status`.
 fn do_after_run<S, D: Desk, C, R, W: Output, E: Output>(
     ended: Ended<'_>,
     status: u8,
@@ -103,13 +135,8 @@ fn do_after_run<S, D: Desk, C, R, W: Output, E: Output>(
     requires { status ≤ 5 }
     ensures { result ≤ 5 }
 {
-    let mut greatest = status;
     let machine = ended.into_machine();
-    if let Some(image) = asked.image {
-        if let Err(fault) = machine_into(host.alloc, &machine, image, &mut host.desk) {
-            greatest = greatest.max(report_fault(fault, &mut host.complaints));
-        }
-    }
+    let greatest = save(&machine, status, asked, host);
     match write_parts(machine, asked.parts.as_slice(), &mut host.output) {
         Ok(()) => greatest,
         Err(_) => greatest.max(report_fault(RunFault::Write, &mut host.complaints)),
@@ -139,20 +166,6 @@ fn report_run<E: Output>(
     timed.report_untyped(ended.machine().steps(), complaints);
 }
 
-// Prints the screen, and then how its characters are shown if that is asked for.
-fn put_screen<W: Output>(
-    machine: &Machine<Global>,
-    attributes: bool,
-    output: &mut W,
-) -> Result<(), WriteFault> {
-    let view = machine.view();
-    print(&view, output)?;
-    if attributes {
-        print_attributes(&view, output)?;
-    }
-    Ok(())
-}
-
 // Runs a source, prints what the run leaves, reports why it stopped, and does what else the options ask for. The exit status is that of
 // the run.
 fn run_assembled<'a, S, D: Desk, C, R, W: Output, E: Output>(
@@ -166,7 +179,8 @@ fn run_assembled<'a, S, D: Desk, C, R, W: Output, E: Output>(
     let alloc = host.alloc;
     let ended = ended_of(alloc, assembled.program(), timed, &mut host.complaints)?;
     let cause = cause_of(&ended, timed);
-    put_screen(ended.machine(), asked.attributes, &mut host.output)?;
+    let view = ended.machine().view();
+    put_screen(&view, asked.terminal, asked.attributes, &mut host.output)?;
     put_end_state(ended.machine(), cause, &mut host.output)?;
     report_run(alloc, assembled, &ended, timed, &mut host.complaints);
     report_last_steps(alloc, &ended, asked.last, &mut host.complaints);
@@ -184,11 +198,19 @@ pub fn run_of<'a, S: Shelf, D: Desk, C, R: Input, W: Output, E: Output>(
 {
     let timed = timed_run_args(given, host)?;
     let (alloc, file) = (host.alloc, timed.run.file);
-    let text = text_of(alloc, file, &mut host.shelf, &mut host.input)?;
+    let text = expanded_text_of(
+        alloc,
+        file,
+        &mut host.shelf,
+        &mut host.input,
+        &mut host.complaints,
+    )?;
     let assembled = assembled_text(alloc, file, text.as_slice(), &mut host.complaints)?;
     put_warnings_of(alloc, file, &assembled, &mut host.complaints)?;
-    let asked = after_run_of(alloc, assembled.program(), given.arguments)?;
-    let message = Message::ImageOverwrites;
-    refuse_overwriting_input(message, asked.image, file, &host.desk)?;
+    let asked = after_run_of(alloc, assembled.program(), given)?;
+    refuse_overwriting_input(Message::ImageOverwrites, asked.image, file, &host.desk)?;
+    let message = Message::PictureOverwrites;
+    refuse_overwriting_input(message, asked.picture, file, &host.desk)?;
+    refuse_overwriting_input(message, asked.picture, asked.image, &host.desk)?;
     run_assembled(&assembled, &timed, &asked, host)
 }

@@ -2,6 +2,8 @@
 
 ghost use Rattle.std.specs.Prelude.{◌≤◌, IfOk};
 
+use crate::films::{Filmed, put_end, put_films};
+use crate::sessions::read_sessions;
 use a2_arguments::Arguments;
 use a2_check::Format::Long;
 use a2_check::{put_refusals, refusals_of};
@@ -10,7 +12,7 @@ use a2_run::{AssembledText, ReadingFault, RunFault, read_text};
 use a2_stream::{Input, Output, ToWrite, put};
 use a2_tests::{
     Case, Format, Found, Line, NumberedLine, SourceErrors, Totals, cases_of, judge_source,
-    lines_of, put_head, put_line_fault, put_solution, put_tail,
+    lines_of, put_head, put_line_fault, put_solution,
 };
 use a2_text::cut;
 use a2lab_commands::options::TEST_FORMAT;
@@ -34,6 +36,7 @@ fn format_in(arguments: &Arguments<'_>) -> Format {
         Some("csv") => Format::Csv,
         Some("json") => Format::Json,
         Some("junit") => Format::Junit,
+        Some("html") => Format::Html,
         _ => Format::Table,
     }
 }
@@ -122,9 +125,9 @@ fn put_counted<W: Output>(
     totals: &mut Totals,
     output: &mut W,
 ) -> Result<(), RunFault> {
-    let is_first = *totals == Totals::new();
+    let solution = totals.files();
     totals.count(found);
-    put_solution(exam.format, name.as_bytes(), cases, found, is_first, output)?;
+    put_solution(exam.format, solution, name.as_bytes(), cases, found, output)?;
     Ok(())
 }
 
@@ -163,8 +166,23 @@ fn examine<S: Shelf, D, C, R: Input, W: Output, E>(
     match AssembledText::of(host.alloc, text.as_slice()) {
         Ok(assembled) => {
             let verdicts = judge_source(host.alloc, cases, &assembled)?;
-            let found = Found::Judged(verdicts.as_slice());
-            put_counted(exam, name, cases, &found, totals, &mut host.output)
+            let (found, solution) = (Found::Judged(verdicts.as_slice()), totals.files());
+            put_counted(exam, name, cases, &found, totals, &mut host.output)?;
+            if let Format::Html = exam.format {
+                let filmed = Filmed {
+                    name,
+                    solution,
+                    source: text.as_slice(),
+                };
+                put_films(
+                    host.alloc,
+                    &filmed,
+                    cases,
+                    verdicts.as_slice(),
+                    &mut host.output,
+                )?;
+            }
+            Ok(())
         }
         Err(RunFault::Memory) => Err(RunFault::Memory),
         Err(fault) => {
@@ -210,13 +228,17 @@ fn test_by<S: Shelf, D, C, R: Input, W: Output, E: Output>(
         return Ok(1);
     }
     let spoken = spoken(host.alloc, lines.as_slice())?;
-    let cases = cases_of(host.alloc, spoken.as_slice())?;
+    let mut cases = cases_of(host.alloc, spoken.as_slice())?;
+    let unread = read_sessions("test", exam.want, &mut cases, host)?;
+    if unread > 0 {
+        return Ok(unread);
+    }
     let mut totals = Totals::new();
-    put_head(exam.format, &mut host.output)?;
+    put_head(exam.format, cases.as_slice(), &mut host.output)?;
     for name in exam.solutions {
         examine(exam, *name, cases.as_slice(), &mut totals, host)?;
     }
-    put_tail(exam.format, &totals, &mut host.output)?;
+    put_end(host.alloc, exam.format, &totals, &mut host.output)?;
     if totals.failed == 0 && totals.refused == 0 {
         Ok(0)
     } else {

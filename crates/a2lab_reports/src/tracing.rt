@@ -11,8 +11,8 @@ use a2_symbols::Span;
 use a2_trace::{Choice, trace_calls, trace_source};
 use a2lab_commands::options::{CALLS, ONLY, STORES, TRACE_FROM, TRACE_LAST};
 use a2lab_commands::{
-    CommandArgs, Host, Message, Refusal, TimedRunArgs, assembled_text, ended_of, first_named,
-    stop_status, text_of, timed_run_args,
+    CommandArgs, Host, Message, Refusal, TimedRunArgs, assembled_text, ended_of, expanded_text_of,
+    first_named, stop_status, timed_run_args,
 };
 use std::alloc::Global;
 
@@ -78,7 +78,13 @@ pub fn trace_of<'a, S: Shelf, D, C, R: Input, W: Output, E: Output>(
 {
     let timed = timed_run_args(given, host)?;
     let (alloc, file) = (host.alloc, timed.run.file);
-    let text = text_of(alloc, file, &mut host.shelf, &mut host.input)?;
+    let text = expanded_text_of(
+        alloc,
+        file,
+        &mut host.shelf,
+        &mut host.input,
+        &mut host.complaints,
+    )?;
     let has_calls = given.arguments.has(&CALLS);
     if has_calls {
         refuse_beside_calls(given.arguments.options.as_slice())?;

@@ -14,8 +14,8 @@ use a2_stream::{Input, Output};
 use a2_timed_keys::{Strokes, Typed, TypedFault};
 use a2lab_commands::options::{DEBUGGER_PLAIN, DEBUGGER_REPLAY, FREE, KEEP, KEYS, KEYS_AT, TUI};
 use a2lab_commands::{
-    CommandArgs, FileRunArgs, Host, Message, Refusal, Terminal, assembled_text, first_named,
-    is_input, record_in, report_untyped, report_write, run_args, strokes_of, text_of,
+    CommandArgs, FileRunArgs, Host, Message, Refusal, Terminal, assembled_text, expanded_text_of,
+    first_named, is_input, record_in, report_untyped, report_write, run_args, strokes_of,
     typed_refusal,
 };
 use std::alloc::{AllocError, Global};
@@ -134,8 +134,8 @@ fn go_to_end<'a, S: Shelf, D, C, R, W, E: Output>(
     }
 }
 
-// Returns keys in the order of their steps.
-fn by_steps(alloc: Global, strokes: &Strokes) -> Result<Vec<Typed>, AllocError> {
+/// Returns keys in the order of their steps. Fails only if there is not enough memory.
+pub fn by_steps(alloc: Global, strokes: &Strokes) -> Result<Vec<Typed>, AllocError> {
     let mut log = Vec::new(alloc);
     for typed in strokes.as_slice() {
         log.push(*typed)?;
@@ -251,7 +251,13 @@ pub fn debug_of<'a, S: Shelf, D, C, R: Input, W: Output, E: Output>(
     let order = run_args(given)?;
     let source = match order.file {
         Some(file) if !is_input(file) => {
-            text_of(host.alloc, order.file, &mut host.shelf, &mut host.input)?
+            expanded_text_of(
+                host.alloc,
+                order.file,
+                &mut host.shelf,
+                &mut host.input,
+                &mut host.complaints,
+            )?
         }
         _ => return Err(Refusal::of_two(Message::NeedsFile, "debug", "debug")),
     };

@@ -19,7 +19,8 @@ use a2_tty::Colours;
 use a2lab_commands::options::{COLOURS, PACE, RECORD, SPEAKER};
 use a2lab_commands::{
     CommandArgs, Host, Message, Refusal, Terminal, Terminals, Value, assembled_text, colours_named,
-    end_status, is_input, put_end_state, refuse_overwriting_input, report, settled, text_of,
+    end_status, expanded_text_of, is_input, put_end_state, refuse_overwriting_input, report,
+    settled,
 };
 
 // Switches a terminal to its alternate screen, without a cursor.
@@ -277,6 +278,12 @@ pub fn play_of<'a, S: Shelf, D: Desk, C: Clock, R: Input, W: Output, E: Output>(
     let terminal = terminal_for(given.seat, given.terminal)?;
     let file = Some(order.file);
     refuse_overwriting_input(Message::KeysOverwrite, order.record_to, file, &host.desk)?;
-    let source = text_of(host.alloc, file, &mut host.shelf, &mut host.input)?;
+    let source = expanded_text_of(
+        host.alloc,
+        file,
+        &mut host.shelf,
+        &mut host.input,
+        &mut host.complaints,
+    )?;
     play_source(source.as_slice(), &order, terminal, host)
 }

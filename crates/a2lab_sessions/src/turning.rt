@@ -61,7 +61,7 @@ impl<R: Input> Input for Patient<'_, R> {
 }
 
 /// Takes the debugger to a step of a session with the keys typed on the way, and returns whether it can go that far.
-pub(crate) fn bring(inspector: &mut Inspector<'_>, log: &[Typed], steps: u64) -> bool {
+pub fn bring(inspector: &mut Inspector<'_>, log: &[Typed], steps: u64) -> bool {
     for typed in log {
         if !inspector.replay_to(typed.steps) || inspector.type_keys(Keys::one(typed.key)).is_err() {
             return false;

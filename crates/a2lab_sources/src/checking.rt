@@ -4,14 +4,18 @@ ghost use Rattle.std.specs.Prelude.{◌≤◌, IfOk};
 
 use a2_arguments::Arguments;
 use a2_asm::Program;
-use a2_check::{Format, ReportFault, Verdict, put_refusals, put_warnings, verdict_of, warnings_of};
+use a2_check::{
+    Format, ReportFault, Verdict, put_refusals, put_warnings, refusals_of, verdict_of, warnings_of,
+};
 use a2_host::Shelf;
 use a2_run::{AssembledText, RunFault};
 use a2_stream::{Input, Output, put_all};
 use a2_syntax::{Fault, Source};
 use a2_text::cut;
 use a2lab_commands::options::CHECK_FORMAT;
-use a2lab_commands::{CommandArgs, Host, Refusal, text_of};
+use a2lab_commands::{
+    CommandArgs, Expanded, Host, Reading, Refusal, reading_of, report_origins, text_of,
+};
 use bumpalo::Bump;
 use std::alloc::{AllocError, Allocator, Global};
 
@@ -109,6 +113,46 @@ fn check<W: Output, E: Output>(
     }
 }
 
+// Returns the exit status of a check.
+fn checked<'a>(done: Result<u8, ReportFault>) -> Result<u8, Refusal<'a>>
+    requires { IfOk done (λ status. status ≤ 5) }
+    ensures { IfOk result (λ status. status ≤ 5) }
+{
+    match done {
+        Ok(status) => Ok(status),
+        Err(ReportFault::Write) => Err(Refusal::Fault(RunFault::Write)),
+        Err(ReportFault::Memory) => Err(Refusal::Fault(RunFault::Memory)),
+    }
+}
+
+// Checks the expansion of a source in the larger language, and returns the exit status. For each error it says from which line of the
+// source it comes.
+fn check_larger<'a, S, D, C, R, W: Output, E: Output>(
+    format: Format,
+    file: Option<&'a str>,
+    headed: bool,
+    made: &Expanded,
+    host: &mut Host<S, D, C, R, W, E>,
+) -> Result<u8, Refusal<'a>>
+    ensures { IfOk result (λ status. status ≤ 5) }
+{
+    let text = Text {
+        name: file.unwrap_or("-"),
+        headed,
+        source: made.text.as_slice(),
+    };
+    let status = checked(check(
+        host.alloc,
+        text,
+        format,
+        &mut host.output,
+        &mut host.complaints,
+    ))?;
+    let refusals = refusals_of(host.alloc, made.text.as_slice())?;
+    report_origins(file, made, refusals.as_slice(), &mut host.complaints);
+    Ok(status)
+}
+
 // Checks a file, or standard input, and returns the exit status. `headed` says that it is one of several.
 fn check_text<'a, S: Shelf, D, C, R: Input, W: Output, E: Output>(
     format: Format,
@@ -119,22 +163,28 @@ fn check_text<'a, S: Shelf, D, C, R: Input, W: Output, E: Output>(
     ensures { IfOk result (λ status. status ≤ 5) }
 {
     let source = text_of(host.alloc, file, &mut host.shelf, &mut host.input)?;
+    let reading = reading_of(
+        host.alloc,
+        file,
+        source.as_slice(),
+        &mut host.shelf,
+        &mut host.complaints,
+    )?;
+    if let Reading::Larger(made) = reading {
+        return check_larger(format, file, headed, &made, host);
+    }
     let text = Text {
         name: file.unwrap_or("-"),
         headed,
         source: source.as_slice(),
     };
-    match check(
+    checked(check(
         host.alloc,
         text,
         format,
         &mut host.output,
         &mut host.complaints,
-    ) {
-        Ok(status) => Ok(status),
-        Err(ReportFault::Write) => Err(Refusal::Fault(RunFault::Write)),
-        Err(ReportFault::Memory) => Err(Refusal::Fault(RunFault::Memory)),
-    }
+    ))
 }
 
 /// Prints the errors of the files that the arguments name, or of standard input. The exit status is the greatest of those of the files:

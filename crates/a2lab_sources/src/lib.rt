@@ -1,4 +1,4 @@
-//! The commands of `a2lab` that read a source and do not run it: `check`, `list`, `fmt` and `import`.
+//! The commands of `a2lab` that read a source and do not run it: `check`, `list`, `fmt`, `expand` and `import`.
 //!
 //! How it is called is shown in CALLING.md.
 #![tactic(auto)]
@@ -6,11 +6,13 @@
 // No command is inlined, so that the stack holds the values of one command, not of all of them.
 
 mod checking;
+mod expanding;
 mod fmt;
 mod import;
 mod listing;
 
 pub use checking::{check_of, put_warnings_of};
+pub use expanding::expand_of;
 pub use fmt::fmt_of;
 pub use import::import_of;
 pub use listing::list_of;

@@ -8,7 +8,7 @@ use a2_host::Shelf;
 use a2_list::{Shown, list_source};
 use a2_stream::{Input, Output};
 use a2lab_commands::options::{CYCLES, NAMES};
-use a2lab_commands::{CommandArgs, Host, Refusal, assembled_text, text_of};
+use a2lab_commands::{CommandArgs, Host, Refusal, assembled_text, expanded_text_of};
 
 // Returns what a listing shows.
 fn shown_by(arguments: &Arguments<'_>) -> Shown
@@ -31,7 +31,13 @@ pub fn list_of<'a, S: Shelf, D, C, R: Input, W: Output, E: Output>(
     ensures { IfOk result (λ status. status ≡ 0) }
 {
     let file = given.arguments.file();
-    let text = text_of(host.alloc, file, &mut host.shelf, &mut host.input)?;
+    let text = expanded_text_of(
+        host.alloc,
+        file,
+        &mut host.shelf,
+        &mut host.input,
+        &mut host.complaints,
+    )?;
     let assembled = assembled_text(host.alloc, file, text.as_slice(), &mut host.complaints)?;
     list_source(
         host.alloc,

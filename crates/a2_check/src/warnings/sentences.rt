@@ -24,6 +24,8 @@ fn sentence_of(kind: WarningKind) -> &'static [u8] {
             b"no line before this one sets the carry; write CLC before ADC, or SEC before SBC: ",
         WarningKind::Rom =>
             b"this stores in ROM, which does not change; to call a routine there, write JSR: ",
+        WarningKind::Astray =>
+            b"no instruction begins at the target of this branch; write a label as its operand: ",
     }
 }
 

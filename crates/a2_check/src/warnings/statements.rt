@@ -126,6 +126,14 @@ pub(crate) fn runs_out_after_service<A: Allocator>(
     }
 }
 
+/// Whether a statement is a branch to an address where no instruction begins.
+pub(crate) fn is_astray<A: Allocator>(begins: &Begins<A>, statement: &Statement) -> bool {
+    match statement.instr {
+        Some(instr) => instr.mode == Mode::Relative && !begins.has(instr.value),
+        None => false,
+    }
+}
+
 /// Whether a statement stores at an address of the Apple's ROM, $D000 to $FFFF.
 pub(crate) fn stores_in_rom(statement: &Statement) -> bool {
     match statement.instr {

@@ -1,5 +1,5 @@
-use Rattle.std.proofs.Common.{◌∙◌, sym, ap, true}
-use Rattle.a2_tests.specs.Rows.{first_row, row_count}
+use Rattle.std.proofs.Common.{◌∙◌, sym, ap}
+use Rattle.a2_tests.specs.Rows.{row_count}
 use Rattle.a2_tests.proofs.RowLaws.{rows-step, within-row}
 use Rattle.a2_tests.proofs.rows.rows_fit.Goals as goal
 

@@ -1,6 +1,6 @@
 use Rattle.std.proofs.Common.{sym, ap, ◌∙◌}
 use Rattle.a2_hex.specs.Images.{Cells, held}
-use Rattle.a2_import.proofs.listing.says.Goals as goal
+use Rattle.a2_import.proofs.listing.assembles_to.Goals as goal
 
 pub returns : goal.returns
 returns g c = λ same. (

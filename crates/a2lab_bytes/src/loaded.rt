@@ -1,0 +1,157 @@
+//! The image of a file that a command names.
+
+use crate::disks::{file_on_disk, split_disk};
+use crate::flaws::report_flaw;
+use a2_disk::DISK_LEN;
+use a2_formats::{
+    Format, FormatFault, Records, copied, format_of, read_apple_single, read_dos,
+    read_monitor_lines, read_plain, read_records,
+};
+use a2_hex::{Image, address_of};
+use a2_host::Shelf;
+use a2_stream::{Input, Output};
+use a2lab_commands::options::{AT, FROM};
+use a2lab_commands::{
+    CommandArgs, Host, Message, Refusal, assembled_text, is_input, loaded_text, long_text,
+};
+use std::alloc::Global;
+
+/// What a file is.
+#[derive(Clone, Copy, Debug, PartialEq, Eq)]
+pub enum FileForm {
+    /// A source, which is assembled.
+    Source,
+    /// A file of this format.
+    Format(Format),
+    /// Bytes from an address upwards.
+    Plain(u16),
+}
+
+// Returns what a value of `--from` names, or `None` if it is to be found out.
+fn form_named(name: &str, start: Option<u16>) -> Option<FileForm> {
+    match name {
+        "source" => Some(FileForm::Source),
+        "hex" => Some(FileForm::Format(Format::Intel)),
+        "srec" => Some(FileForm::Format(Format::Motorola)),
+        "applesingle" => Some(FileForm::Format(Format::AppleSingle)),
+        "dos" => Some(FileForm::Format(Format::Dos)),
+        "object" | "monitor" => Some(FileForm::Format(Format::Lines)),
+        _ => start.map(FileForm::Plain),
+    }
+}
+
+// Returns the address that `--at` gives, with or without `$`.
+fn start_in<'a>(given: &CommandArgs<'_, 'a>) -> Result<Option<u16>, Refusal<'a>> {
+    let Some(text) = given.arguments.text(&AT) else {
+        return Ok(None);
+    };
+    let digits = match text.as_bytes() {
+        [b'$', digits @ ..] => digits,
+        digits => digits,
+    };
+    match address_of(digits) {
+        Some(address) => Ok(Some(address)),
+        None => Err(Refusal::of_two(Message::NotAddress, given.command.name, text)),
+    }
+}
+
+/// Returns what `--from` and `--at` say that the files of a command are, or `None` if it is to be found out.
+pub fn form_of_option<'a>(given: &CommandArgs<'_, 'a>) -> Result<Option<FileForm>, Refusal<'a>> {
+    let name = given.arguments.text(&FROM).unwrap_or("auto");
+    let start = start_in(given)?;
+    if name == "raw" && start.is_none() {
+        return Err(Refusal::of(Message::PlainWithoutAddress, given.command.name));
+    }
+    Ok(form_named(name, start))
+}
+
+// Returns whether the files of a format are texts.
+fn is_text(format: Format) -> bool {
+    !matches!(format, Format::Dos | Format::AppleSingle)
+}
+
+// Returns the image of the bytes of a file of a format.
+fn formatted(alloc: Global, format: Format, bytes: &[u8]) -> Result<Image, FormatFault> {
+    match format {
+        Format::Intel => read_records(alloc, Records::Intel, bytes),
+        Format::Motorola => read_records(alloc, Records::Motorola, bytes),
+        Format::Dos => read_dos(alloc, bytes),
+        Format::AppleSingle => read_apple_single(alloc, bytes),
+        Format::Lines => read_monitor_lines(alloc, bytes),
+    }
+}
+
+/// Returns the image of the bytes of the file `name`, or reports why there is none.
+pub(crate) fn image_in<'a, E: Output>(
+    alloc: Global,
+    name: Option<&str>,
+    form: FileForm,
+    bytes: &[u8],
+    complaints: &mut E,
+) -> Result<Image, Refusal<'a>> {
+    let (texts, image) = match form {
+        FileForm::Source => {
+            let assembled = assembled_text(alloc, name, bytes, complaints)?;
+            (true, copied(alloc, assembled.program().image()))
+        }
+        FileForm::Plain(start) => (false, read_plain(alloc, start, bytes)),
+        FileForm::Format(format) => (is_text(format), formatted(alloc, format, bytes)),
+    };
+    match image {
+        Ok(image) => Ok(image),
+        Err(fault) => Err(report_flaw(name, texts, fault, complaints)),
+    }
+}
+
+/// What a file has.
+#[derive(Drop)]
+pub(crate) struct Contents<'a> {
+    /// The file's name, or that of its disk.
+    pub name: Option<&'a str>,
+    pub bytes: Vec<u8>,
+    /// What the bytes are, if that is known.
+    pub form: Option<FileForm>,
+}
+
+/// Reads the file `name`, a file on a disk, or standard input. If `form` does not say what it is, it is found out if it is certain.
+pub(crate) fn contents_in<'a, S: Shelf, D, C, R: Input, W, E: Output>(
+    name: Option<&'a str>,
+    form: Option<FileForm>,
+    host: &mut Host<S, D, C, R, W, E>,
+) -> Result<Contents<'a>, Refusal<'a>> {
+    let alloc = host.alloc;
+    let (name, part) = split_disk(name);
+    let bytes = match name {
+        Some(name) if !is_input(name) => loaded_text(alloc, name, &mut host.shelf)?,
+        _ => long_text(alloc, &mut host.input)?,
+    };
+    if form.is_none() && bytes.len() == DISK_LEN {
+        return Ok(Contents {
+            name,
+            bytes: file_on_disk(alloc, name, part, bytes.as_slice(), &mut host.complaints)?,
+            form: Some(FileForm::Format(Format::Dos)),
+        });
+    }
+    let form = match form {
+        Some(form) => Some(form),
+        None => format_of(alloc, bytes.as_slice()).map(FileForm::Format),
+    };
+    Ok(Contents { name, bytes, form })
+}
+
+/// Returns the image of the file `name`, or of standard input. If `form` does not say what it is, it is found out, and a file of none of the
+/// formats is a source.
+pub fn loaded_image<'a, S: Shelf, D, C, R: Input, W, E: Output>(
+    name: Option<&'a str>,
+    form: Option<FileForm>,
+    host: &mut Host<S, D, C, R, W, E>,
+) -> Result<Image, Refusal<'a>> {
+    let contents = contents_in(name, form, host)?;
+    image_in(
+        host.alloc,
+        contents.name,
+        contents.form.unwrap_or(FileForm::Source),
+        contents.bytes.as_slice(),
+        &mut host.complaints,
+    )
+}
