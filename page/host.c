@@ -278,8 +278,10 @@ int statx(int folder, const u8 *name, int flags, u32 wanted, Stat *at) {
     return 0;
 }
 
-// (No name is a link.)
+// (No name is a link, and there are no permissions. Without a path in it, the program keeps the name of a file as it is.)
 isize readlink(const u8 *name, u8 *at, usize room) { return judged(-NOT_FOUND); }
+u8 *realpath(const u8 *name, u8 *at) { return (u8 *)(usize)(judged(-NOT_FOUND) + 1); }
+int fchmod(int file, u32 mode) { return 0; }
 
 int clock_gettime(int clock, isize at[2]) {
     isize now = host_clock(clock);

@@ -1,17 +1,17 @@
-// Makes the page, one HTML file that needs nothing else: node make-html.mjs MODULES FILE.html [VERSION]. MODULES is a folder with a2lab.wasm,
-// and perhaps a2.wasm. VERSION is what the page says about itself.
+// Makes the page, one HTML file that needs nothing else: node make-html.mjs MODULES FILE.html [VERSION]. MODULES is a folder with a2lab.wasm.
+// VERSION is what the page says about itself.
 //
 // The page forbids itself any network, and any script or style but its own, which it names by their hashes.
 import {createHash} from 'node:crypto';
 import fs from 'node:fs';
 import path from 'node:path';
 import {fileURLToPath} from 'node:url';
-import {shapesOf} from './font.mjs';
+import {coloursOf, shapesOf} from './font.mjs';
 import {expressionOf, inlined, packed} from './inline.mjs';
 import {readerOf} from './reader.mjs';
 
 const at = name => fileURLToPath(new URL(name, import.meta.url)), text = name => fs.readFileSync(at(name), 'utf8');
-const PROGRAMS = ['a2lab', 'a2'];
+const PROGRAMS = ['a2lab'], PICTURE = at('../crates/a2_picture/data/');
 
 // The title of an example is the first sentence of its first comment.
 function exampleOf(file) {
@@ -39,7 +39,8 @@ function dataBlock(id, data, type = 'application/json') {
 function data(modules, version) {
   const there = PROGRAMS.filter(it => fs.existsSync(path.join(modules, `${it}.wasm`)));
   if (!there.includes('a2lab')) throw new Error(`there is no a2lab.wasm in ${modules}; page/build makes it`);
-  return [dataBlock('examples', expressionOf(examples())), dataBlock('font', expressionOf(shapesOf(at('app/font.txt')))),
+  return [dataBlock('examples', expressionOf(examples())), dataBlock('font', expressionOf(shapesOf(PICTURE + 'font.txt'))),
+    dataBlock('colours', expressionOf(coloursOf(PICTURE + 'colours.txt'))),
     dataBlock('worker', expressionOf(inlined(at('worker.mjs')))), dataBlock('manual', packed(JSON.stringify(manual())), 'text/plain'),
     dataBlock('version', version.replaceAll('<', ''), 'text/plain'), ...there.map(it => dataBlock(`module-${it}`, packed(fs.readFileSync(path.join(modules, `${it}.wasm`))), 'text/plain'))].join('');
 }

@@ -1,10 +1,10 @@
 // Draws what `play` writes to its terminal as the machine shows it: the left half is the screen, the right half is text beside it.
 import {inNextFrame, seldom, setText} from './dom.mjs';
-import {COLUMNS, Pen, ROWS} from './pen.mjs';
+import {COLOURS, COLUMNS, Pen, ROWS} from './pen.mjs';
 
 // Where the text of the right half begins.
 const PANEL = COLUMNS + 2;
-const BLACK = '#000', LIGHT = '#e4f2e4';
+const BLACK = COLOURS[0], LIGHT = COLOURS[16];
 // The text beside the screen has counts that change with each step. Nobody reads them more often than so many milliseconds.
 const PANEL_TIME = 200;
 

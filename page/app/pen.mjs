@@ -7,7 +7,10 @@ export const DOT = 2;
 export const WIDTH = 7 * DOT;
 export const HEIGHT = 8 * DOT;
 
-const LIGHT = '#e4f2e4', DARK = '#000';
+/** The colours by their numbers in colours.txt: 0 to 15 are those of lo-res. */
+export const COLOURS = JSON.parse(block('colours'));
+
+const LIGHT = COLOURS[16], DARK = COLOURS[0];
 
 /** The shapes of 64 characters; each is 8 rows of 7 dots, `#` or `.`. (font.txt) */
 const SHAPES = JSON.parse(block('font'));

@@ -10,11 +10,6 @@ export function moduleOf(name) {
   return modules.get(name);
 }
 
-/** Whether the page has this program. */
-export function has(name) {
-  return block(`module-${name}`) !== undefined;
-}
-
 let workerUrl = null;
 
 /** Returns a new worker, which understands the messages of worker.mjs. */
@@ -23,9 +18,13 @@ export function startWorker() {
   return new Worker(workerUrl);
 }
 
-/** Returns files as worker.mjs takes them. @param {Record<string, string | undefined>} files Texts by their names; no file where there is none. */
+/**
+ * Returns files as worker.mjs takes them.
+ * @param {Record<string, string | Uint8Array | undefined>} files Texts or bytes by their names; no file where there is none.
+ */
 export function filesOf(files) {
-  return Object.entries(files).filter(([, text]) => text !== undefined).map(([name, text]) => [name, new TextEncoder().encode(text)]);
+  const bytesOf = content => typeof content === 'string' ? new TextEncoder().encode(content) : content;
+  return Object.entries(files).filter(([, content]) => content !== undefined).map(([name, content]) => [name, bytesOf(content)]);
 }
 
 /** Returns the texts of files by their names. @param {[string, Uint8Array][]} files As worker.mjs sends them. */
@@ -56,16 +55,17 @@ export class Runner {
   /**
    * Runs a program until it ends.
    * @param {string[]} words The name of the program, and its arguments.
-   * @param {Record<string, string>} files
-   * @returns {Promise<{status: number | null, fault: object | null, stdout: string, stderr: string, files: Record<string, string>}>}
-   *   `files` has all that there are when it ends.
+   * @param {Record<string, string | Uint8Array>} files
+   * @returns {Promise<{status: number | null, fault: object | null, stdout: string, stderr: string, bytes: Uint8Array,
+   *   files: Record<string, string>, made: Record<string, Uint8Array>}>} `bytes` are those of `stdout`. `files` has the texts of all files that
+   *   there are when it ends, and `made` their bytes.
    */
   async run(words, files) {
     this.cancel();
     const number = this.#number, module = await moduleOf(words[0]);
     if (number !== this.#number) throw new Cancelled();
     const {status, fault, stdout, stderr, files: there} = await this.#ask({kind: 'run', id: number, module, words, files: filesOf(files)});
-    return {status, fault, stdout: read(stdout), stderr: read(stderr), files: textsOf(there)};
+    return {status, fault, stdout: read(stdout), stderr: read(stderr), bytes: stdout, files: textsOf(there), made: Object.fromEntries(there)};
   }
 
   /** Ends a call that has not ended yet. */

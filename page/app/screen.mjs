@@ -1,10 +1,10 @@
 // Draws the screen of the machine from its bytes in RAM, and its switches.
-import {COLUMNS, DOT, HEIGHT, Pen, ROWS} from './pen.mjs';
+import {COLOURS, COLUMNS, DOT, HEIGHT, Pen, ROWS} from './pen.mjs';
 
 const TEXT_SWITCH = 1, MIXED = 2, PAGE_2 = 4, HI_RES = 8;
 const FIRST_TEXT_ROW = 20, FLASH_TIME = 270;
-// Hi-res: the colours of a dot by its bit 7 and the parity of its column, and of two dots beside each other.
-const HUES = [['#c63cf0', '#3ad03a'], ['#2f8cf0', '#f0802f']], WHITE = '#fff', BLACK = '#000', FRAME = '#ffcf33';
+// Hi-res: the number of the first colour of a dot, and those of two dots beside each other and of none.
+const HI_RES_HUES = 17, WHITE = COLOURS[15], BLACK = COLOURS[0], FRAME = '#ffcf33';
 // What a cell shows that must be drawn again.
 const STALE = '';
 
@@ -121,8 +121,8 @@ export class Screen {
     for (const [line, from] of lines.entries()) {
       const isOn = dot => dot >= 0 && dot < 280 && ram[from + Math.floor(dot / 7)] >> dot % 7 & 1;
       for (let dot = 0; dot < 280; ++dot) {
-        const hues = HUES[ram[from + Math.floor(dot / 7)] >> 7];
-        const colour = !isOn(dot) ? BLACK : isOn(dot - 1) || isOn(dot + 1) ? WHITE : hues[dot % 2];
+        const hue = COLOURS[HI_RES_HUES + 2 * (ram[from + Math.floor(dot / 7)] >> 7) + dot % 2];
+        const colour = !isOn(dot) ? BLACK : isOn(dot - 1) || isOn(dot + 1) ? WHITE : hue;
         this.pen.fill(colour, dot * DOT, row * HEIGHT + line * DOT, DOT, DOT);
       }
     }

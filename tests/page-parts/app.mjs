@@ -66,6 +66,7 @@ async function programs(value, a2) {
       return [document.querySelector('#gutter .error').textContent, document.querySelectorAll('#problems li').length]`));
     equal(found, ['2', 1]);
     equal(await value(inPage(`document.querySelector('#problems .goes').click(); const it = the.id('source'); return it.value.slice(it.selectionStart, it.selectionEnd)`)), 'NOWHERE');
+    await value(inPage(`the.type(' IF 1\\n RTS\\n'); await the.until(() => the.text('problems').includes('the block is not closedclose it with'), 'the error of a block')`));
     await value(inPage(`the.type(' LDA #1\\n RTS\\n'); await the.until(() => !document.querySelector('#problems li'), 'no error')`));
   });
   await test('a click fixes a misspelled name', async () => {
@@ -236,6 +237,20 @@ async function keeping(value) {
       drop(new File([' RTS ; dropped\\r\\n'], 'dropped.s')); await the.until(() => the.id('programs').value === 'dropped', 'the program');
       return [the.notices().length, isSame, the.id('source').value, the.id('programs').value]`));
     equal(found, [3, true, ' RTS ; dropped\n', 'dropped']);
+  });
+  await test('files: bytes of other programs are opened as a source, at the address that they or their name say', async () => {
+    const found = await value(inPage(`the.closeNotices(); const drop = file => {
+        const transfer = new DataTransfer(); transfer.items.add(file);
+        dispatchEvent(new DragEvent('drop', {dataTransfer: transfer, cancelable: true})); };
+      const opened = async (name, ...content) => {
+        drop(new File(content, name)); await the.until(() => the.id('programs').value === name.replace(/\\..*/, ''), name);
+        return the.id('source').value; };
+      return [await opened('tiny.hex', ':06030000A9C120EDFD6023\\n:00000001FF\\n'), await opened('dump.mon', '*300.302\\n0300- A9 C1 60\\n'),
+        await opened('raw-2000.bin', new Uint8Array([0xA2, 5, 0xCA, 0xD0, 0xFD, 0x60])), the.notices().length]`));
+    equal(found[0].includes('JSR COUT') && found[0].includes('ORG $0300'), true);
+    equal(found[1].includes('LDA #$C1'), true);
+    equal(found[2].includes('ORG $2000') && found[2].includes('BNE L2002'), true);
+    equal(found[3], 0);
   });
 }
 

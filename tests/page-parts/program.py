@@ -2,7 +2,7 @@
 """Runs the cases of tests/program with modules: program.py FOLDER PROGRAM=MODULE.. puts scripts in place of the programs into
 the folder.
 
-It leaves out cases with limits that the shell sets for a process, and with terminals. The last line is 'N passed, M failed'.
+It leaves out cases with limits that the shell sets for a process, with terminals and with permissions. The last line is 'N passed, M failed'.
 """
 import importlib.machinery
 import importlib.util
@@ -17,7 +17,8 @@ from pathlib import Path
 HERE = Path(__file__).resolve().parent
 TOP = HERE.parents[1]
 # Why cases are left out, and the pattern in their commands.
-NOT_HERE = {"a limit of the shell": r"\b(ulimit|prlimit)\b", "a terminal": r"\b(script -|at_terminal\b)|/dev/tty|\bstty\b"}
+NOT_HERE = {"a limit of the shell": r"\b(ulimit|prlimit)\b", "a terminal": r"\b(script -|at_terminal\b)|/dev/tty|\bstty\b",
+            "permissions of files": r"\bstat -c '%a"}
 
 # Has a case's shell write to the ends of its output files, as the server does, which opens them again.
 APPENDING = "exec >>/proc/self/fd/1 2>>/proc/self/fd/2\n"
