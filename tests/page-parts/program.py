@@ -2,7 +2,8 @@
 """Runs the cases of tests/program with modules: program.py FOLDER PROGRAM=MODULE.. puts scripts in place of the programs into
 the folder.
 
-It leaves out cases with limits that the shell sets for a process, with terminals and with permissions. The last line is 'N passed, M failed'.
+It leaves out cases with limits that the shell sets for a process, with terminals and with permissions. The last line is
+'N passed, M failed'.
 """
 import importlib.machinery
 import importlib.util
