@@ -120,6 +120,14 @@ is_larger_statement line =
 abbrev pub is_larger_line : List ℕ → Bool
 is_larger_line line = if get_or line 0 0 == sign "*" then false else is_larger_statement line
 
+-- whether the operation of a line is one of the larger language; a line that begins with `*` is a comment
+abbrev pub has_larger_word : List ℕ → Bool
+has_larger_word line = if get_or line 0 0 == sign "*" then false else is_larger_word (operation line)
+
+-- whether the operation of a line of a text is one of the larger language
+unfoldable pub uses_larger_operation : List ℕ → Bool
+uses_larger_operation text = list_any has_larger_word (lines text)
+
 -- whether no line of a text uses the larger language
 unfoldable pub uses_nothing_larger : List ℕ → Bool
 uses_nothing_larger text = not (list_any is_larger_line (lines text))

@@ -1,9 +1,10 @@
 //! Parameters of macros and counters of repeated blocks, and the texts that replace them.
 
 use crate::adding::add;
-use crate::fault::{ExpandFault, Problem, trouble};
+use crate::fault::{ExpandFault, Problem, trouble, trouble_at};
 use crate::larger::{is_run_byte, quote_after};
-use crate::parts::split_item;
+use crate::limits::MOST_LINE_BYTES;
+use crate::parts::{is_name, place_in_list, split_item};
 use a2_text::front_len;
 use std::alloc::{AllocError, Allocator};
 
@@ -24,30 +25,35 @@ fn bound<'b, A: Allocator>(bindings: &'b [Binding<A>], name: &[u8]) -> Option<&'
     None
 }
 
-// Appends a run of name bytes, or the text that replaces it. After `$`, `%` and `.` it is not a name.
+// Appends a run of name bytes, or the text that replaces it. After `$`, `%` and `.` it is not a name. Fails if that text makes the line too
+// long.
 fn put_run<A: Allocator>(
     out: &mut Vec<u8, A>,
     last: u8,
     run: &[u8],
     bindings: &[Binding<A>],
-) -> Result<(), AllocError> {
-    if last == b'$' || last == b'%' || last == b'.' {
-        return out.extend_from_slice(run);
+) -> Result<(), ExpandFault> {
+    let text = if matches!(last, b'$' | b'%' | b'.') {
+        None
+    } else {
+        bound(bindings, run)
+    };
+    out.extend_from_slice(text.unwrap_or(run))?;
+    if text.is_some() && out.len() > MOST_LINE_BYTES {
+        return Err(trouble(Problem::GrownLine, run));
     }
-    match bound(bindings, run) {
-        Some(text) => out.extend_from_slice(text),
-        None => out.extend_from_slice(run),
-    }
+    Ok(())
 }
 
-/// Returns a line with texts in place of the names that are bound. Comments and texts in quotes stay as they are.
+/// Returns a line with texts in place of the names that are bound. Comments and texts in quotes stay as they are. Fails if a text makes the
+/// line too long: otherwise an argument that is passed on twice by each call would double with each.
 pub(crate) fn substituted<A: Allocator>(
     alloc: A,
     line: &[u8],
     bindings: &[Binding<A>],
-) -> Result<Vec<u8, A>, AllocError> {
+) -> Result<Vec<u8, A>, ExpandFault> {
     if bindings.is_empty() || line.starts_with(b"*") {
-        return Vec::from_slice(alloc, line);
+        return Ok(Vec::from_slice(alloc, line)?);
     }
     let mut out = Vec::new(alloc);
     let mut rest = line;
@@ -84,14 +90,6 @@ fn split_parameter(item: &[u8]) -> (&[u8], Option<&[u8]>) {
     }
 }
 
-// Whether a text can be the name of a parameter.
-fn is_parameter(name: &[u8]) -> bool {
-    match name {
-        [b'0'..=b'9', ..] | [] => false,
-        _ => front_len(name, |c| is_run_byte(c)) == name.len(),
-    }
-}
-
 // Adds the binding of a parameter to its argument, or to its default.
 fn bind<A: Allocator + Copy>(
     alloc: A,
@@ -100,9 +98,6 @@ fn bind<A: Allocator + Copy>(
     argument: Option<&[u8]>,
 ) -> Result<(), ExpandFault> {
     let (name, default) = split_parameter(parameter);
-    if !is_parameter(name) {
-        return Err(trouble(Problem::Parameter, parameter));
-    }
     let given = match argument {
         Some(text) if !text.is_empty() => Some(text),
         _ => default,
@@ -136,6 +131,41 @@ fn list_of(text: &[u8]) -> Option<&[u8]> {
     }
 }
 
+// Whether a parameter of a list has this name.
+fn has_parameter(list: Option<&[u8]>, name: &[u8]) -> bool {
+    let mut rest = list;
+    for _ in 0..list.unwrap_or(b"").len().saturating_add(1) {
+        let (Some(item), more) = next_item(rest) else {
+            break;
+        };
+        if split_parameter(item).0 == name {
+            return true;
+        }
+        rest = more;
+    }
+    false
+}
+
+/// Fails if a parameter of a list is not a name, or has the name of a later one.
+pub(crate) fn check_parameters(parameters: &[u8]) -> Result<(), ExpandFault> {
+    let mut rest = list_of(parameters);
+    for _ in 0..parameters.len().saturating_add(1) {
+        let (Some(item), more) = next_item(rest) else {
+            break;
+        };
+        let (name, _) = split_parameter(item);
+        let at = place_in_list(parameters, rest.unwrap_or(b""));
+        if !is_name(name) {
+            return Err(trouble_at(Problem::Parameter, item, at));
+        }
+        if has_parameter(more, name) {
+            return Err(trouble_at(Problem::ParameterTwice, name, at));
+        }
+        rest = more;
+    }
+    Ok(())
+}
+
 /// Adds the bindings of the parameters of a macro to the arguments of a call.
 pub(crate) fn bind_all<A: Allocator + Copy>(
     alloc: A,
@@ -155,7 +185,10 @@ pub(crate) fn bind_all<A: Allocator + Copy>(
         texts = others;
     }
     match texts {
-        Some(text) => Err(trouble(Problem::ManyArguments, text.trim_ascii())),
+        Some(text) => {
+            let at = place_in_list(arguments, text);
+            Err(trouble_at(Problem::ManyArguments, text.trim_ascii(), at))
+        }
         None => Ok(()),
     }
 }

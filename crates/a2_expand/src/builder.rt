@@ -1,19 +1,15 @@
 //! The plain lines of lines that stand alone: everything but blocks and macros.
 
 use crate::adding::add;
-use crate::fault::{ExpandFault, Origin, Problem, trouble};
+use crate::fault::{ExpandFault, Origin, Problem, moved, trouble, trouble_at};
 use crate::larger::is_larger_line;
+use crate::limits::{MOST_LINE_BYTES, MOST_LINES};
 use crate::operand::{Known, Width, put_count, put_decimal, put_expression, put_operand, value_of};
-use crate::parts::{Parts, Word, parts_of, split_item, word_of};
+use crate::parts::{Parts, Word, parts_of, place_in_list, split_item, word_of};
 use crate::token::{Token, split_token};
 use crate::value::Constant;
 use a2_text::front_len;
 use std::alloc::{AllocError, Allocator};
-
-/// The most lines of a plain text, and the most bytes of one.
-pub(crate) const MOST_LINES: usize = 4096;
-
-pub(crate) const MOST_LINE_BYTES: usize = 255;
 
 // The most bytes in a line of data that is made here.
 const BYTES_IN_A_LINE: usize = 32;
@@ -26,14 +22,20 @@ pub(crate) struct Row<A: Allocator> {
     pub scope: usize,
 }
 
+/// A scope of local labels: its name, and the scope around it, in which a label is looked up too.
+#[derive(Drop)]
+pub(crate) struct Scope<A: Allocator> {
+    pub name: Vec<u8, A>,
+    pub around: Option<usize>,
+}
+
 /// The lines so far, and what they have defined.
 #[derive(Drop)]
 pub(crate) struct Builder<A: Allocator> {
     pub alloc: A,
     pub rows: Vec<Row<A>, A>,
     pub constants: Vec<Constant<A>, A>,
-    /// The names of the scopes of local labels.
-    pub scopes: Vec<Vec<u8, A>, A>,
+    pub scopes: Vec<Scope<A>, A>,
     /// The scope of the line, an index of `scopes`.
     pub scope: usize,
     /// Whether labels do not begin a new scope.
@@ -89,7 +91,7 @@ fn characters(operand: &[u8]) -> Result<&[u8], ExpandFault> {
     match operand {
         [b'\'', inner @ .., b'\''] if lacks(inner, b'\'') => Ok(inner),
         [b'"', inner @ .., b'"'] if lacks(inner, b'"') => Ok(inner),
-        _ => Err(trouble(Problem::Text, operand)),
+        _ => Err(trouble_at(Problem::Text, operand, 0)),
     }
 }
 
@@ -137,6 +139,7 @@ fn later<'p>(parts: Parts<'p>) -> Parts<'p> {
         operation: parts.operation,
         operand: parts.operand,
         comment: b"",
+        operand_at: parts.operand_at,
     }
 }
 
@@ -187,12 +190,26 @@ impl<A: Allocator + Copy> Builder<A> {
         self.new_scope(parts.label)
     }
 
+    // Adds a scope, and begins it.
+    fn add_scope(&mut self, name: Vec<u8, A>, around: Option<usize>) -> Result<(), ExpandFault> {
+        add(&mut self.scopes, Scope { name, around })?;
+        self.scope = self.scopes.len().saturating_sub(1);
+        Ok(())
+    }
+
     /// Begins a scope with this name.
     pub(crate) fn new_scope(&mut self, name: &[u8]) -> Result<(), ExpandFault> {
         let name = Vec::from_slice(self.alloc, name)?;
-        add(&mut self.scopes, name)?;
-        self.scope = self.scopes.len().saturating_sub(1);
-        Ok(())
+        self.add_scope(name, None)
+    }
+
+    /// Begins a scope inside the scope of the line, with its name.
+    pub(crate) fn inner_scope(&mut self) -> Result<(), ExpandFault> {
+        let name = match self.scopes.get(self.scope) {
+            Some(scope) => Vec::from_slice(self.alloc, scope.name.as_slice())?,
+            None => Vec::new(self.alloc),
+        };
+        self.add_scope(name, Some(self.scope))
     }
 
     /// Makes the value of a name known.
@@ -310,7 +327,10 @@ impl<A: Allocator + Copy> Builder<A> {
                 break;
             };
             let (item, following) = split_item(text);
-            now = self.put_item(now, &mut list, item, at)?;
+            now = match self.put_item(now, &mut list, item, at) {
+                Ok(later) => later,
+                Err(fault) => return Err(moved(fault, place_in_list(parts.operand, text))),
+            };
             rest = following;
         }
         self.flush(now, &mut list, at)?;
@@ -321,7 +341,7 @@ impl<A: Allocator + Copy> Builder<A> {
     pub(crate) fn count_of(&self, text: &[u8]) -> Result<u32, ExpandFault> {
         let value = value_of(text, &self.known())?;
         if value < 0 || value > 65535 {
-            return Err(trouble(Problem::Count, text));
+            return Err(trouble_at(Problem::Count, text, 0));
         }
         Ok(value as u32)
     }
@@ -330,7 +350,7 @@ impl<A: Allocator + Copy> Builder<A> {
     fn byte_of(&self, text: &[u8]) -> Result<u8, ExpandFault> {
         let value = value_of(text, &self.known())?;
         if value < -128 || value > 255 {
-            return Err(trouble(Problem::ByteRange, text));
+            return Err(trouble_at(Problem::ByteRange, text, 0));
         }
         Ok((value & 255) as u8)
     }
@@ -362,7 +382,10 @@ impl<A: Allocator + Copy> Builder<A> {
     fn put_room(&mut self, parts: Parts<'_>, at: Origin) -> Result<(), ExpandFault> {
         let (first, following) = split_item(parts.operand);
         let value = match following {
-            Some(text) => self.byte_of(text)?,
+            Some(text) => match self.byte_of(text.trim_ascii()) {
+                Ok(value) => value,
+                Err(fault) => return Err(moved(fault, place_in_list(parts.operand, text))),
+            },
             None => 0,
         };
         if value == 0 {

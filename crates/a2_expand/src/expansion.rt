@@ -6,17 +6,17 @@ ghost use Rattle.a2_expand.specs.Places.{own_places};
 ghost use Rattle.a2_expand.specs.Plain.{IsPlain, IsRead};
 ghost use Rattle.a2_expand.specs.declared.fault.Problem.TheVariants.{Memory};
 
-use crate::fault::{ExpandFault, Origin, Problem, trouble};
-use crate::flow::{Call, Flow, Warning, begin_reading};
+use crate::fault::{ExpandFault, Origin, Problem, placed, shortened, trouble};
+use crate::files::Warning;
+use crate::flow::{Flow, begin_reading};
 use crate::labels::{Lines, named_text};
-use crate::larger::uses_nothing_larger;
+use crate::larger::{is_larger_line, uses_nothing_larger};
+use crate::limits::MOST_BYTES;
+use crate::macros::Call;
 use crate::source::LoadedFile;
 use a2_syntax::{Fault, parse};
 use a2_text::cut;
 use std::alloc::{AllocError, Allocator};
-
-// The most bytes of a plain text.
-const MOST_BYTES: usize = 65536;
 
 /// A plain text, and where each of its lines comes from.
 #[derive(Drop)]
@@ -89,14 +89,26 @@ fn outermost(calls: &[Call<'_>], at: Origin) -> Origin {
     now
 }
 
-// Returns a fault with the line that called the macro in which it is.
+// Returns the name of the macro that a call is of, or no name if it is no call.
+fn macro_of<'c>(calls: &[Call<'c>], call: usize) -> &'c [u8] {
+    match call.checked_sub(1) {
+        Some(index) => match calls.get(index) {
+            Some(call) => call.name,
+            None => b"",
+        },
+        None => b"",
+    }
+}
+
+// Returns a fault with the macro in which it is, and the line that called that, or the macro around it.
 fn called(fault: ExpandFault, calls: &[Call<'_>]) -> ExpandFault {
-    let from = outermost(calls, fault.at);
     ExpandFault {
         problem: fault.problem,
         at: fault.at,
-        from,
+        from: outermost(calls, fault.at),
+        within: shortened(macro_of(calls, fault.at.call)),
         word: fault.word,
+        column: fault.column,
     }
 }
 
@@ -131,6 +143,21 @@ fn made_of<'t, A: Allocator + Copy>(
     }
 }
 
+// Returns the place of the first line that uses the larger language.
+fn place_of_larger<A: Allocator>(
+    alloc: A,
+    text: &[u8],
+    origins: &[Origin],
+) -> Result<Origin, AllocError> {
+    let lines = cut(alloc, text)?;
+    for (line, at) in lines.iter().zip(origins.iter()) {
+        if is_larger_line(*line) {
+            return Ok(*at);
+        }
+    }
+    Ok(own_line(1))
+}
+
 // Returns the lines as an expansion if they are plain, each has its place, and they are not too large.
 fn checked<'t, A: Allocator + Copy>(
     alloc: A,
@@ -141,11 +168,12 @@ fn checked<'t, A: Allocator + Copy>(
     ensures size { IfOk result (λ made. length made.text.items ≤ 65536) }
 {
     if made.text.len() > MOST_BYTES {
-        return Err(trouble(Problem::ManyBytes, b""));
+        return Err(placed(trouble(Problem::ManyBytes, b""), own_line(1)));
     }
     let count = count_lines(alloc, made.text.as_slice())?;
     if count != made.origins.len() || !is_plain(alloc, made.text.as_slice())? {
-        return Err(trouble(Problem::Remains, b""));
+        let at = place_of_larger(alloc, made.text.as_slice(), made.origins.as_slice())?;
+        return Err(placed(trouble(Problem::Remains, b""), at));
     }
     Ok(made)
 }

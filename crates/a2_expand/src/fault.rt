@@ -16,8 +16,10 @@ pub enum Problem {
     TakesNoLabel,
     /// The operation needs an operand.
     NeedsOperand,
-    /// The expression is not in the grammar.
+    /// The word is not allowed at this place of the expression.
     Expression,
+    /// The expression ends where a number or a name is needed.
+    Incomplete,
     /// A bracket is not closed, or not opened.
     Bracket,
     /// The expression needs the value of a name that is not known in this line.
@@ -54,12 +56,16 @@ pub enum Problem {
     Unopened,
     /// `ELSE` or `ELSEIF` after `ELSE`.
     AfterElse,
-    /// The name of a macro is not a name, or belongs to an operation.
+    /// The name of a macro is not a name, or belongs to an operation or an instruction.
     MacroName,
     /// The macro is defined twice.
     MacroTwice,
-    /// A parameter is not a name, or is named twice.
+    /// A parameter is not a name.
     Parameter,
+    /// Two parameters of a macro have the same name.
+    ParameterTwice,
+    /// The counter of a repeated block is not a name.
+    Counter,
     /// A macro is defined in a macro or in a repeated block.
     NestedMacro,
     /// The call has too many arguments.
@@ -72,10 +78,18 @@ pub enum Problem {
     ManyLines,
     /// The expansion has too many bytes.
     ManyBytes,
+    /// Too many local labels get a name.
+    ManyNames,
+    /// A line of the source is too long.
+    LongSource,
+    /// A line is too long as soon as the text of a parameter or of a counter is in it.
+    GrownLine,
     /// A line of the expansion is too long.
     LongLine,
-    /// The expansion takes too many steps.
+    /// Too many lines are read.
     ManySteps,
+    /// The text includes too many files.
+    ManyFiles,
     /// The name of a file is not a text in quotes.
     FileName,
     /// The file is outside the folder.
@@ -115,7 +129,11 @@ pub struct ExpandFault {
     pub problem: Problem,
     pub at: Origin,
     pub from: Origin,
+    /// The name of the macro in which it is, or no name.
+    pub within: FaultWord,
     pub word: FaultWord,
+    /// How many bytes of the line are before the word, if this is known. It is not known of a line in which a parameter was replaced.
+    pub column: Option<usize>,
 }
 
 /// The place of a fault whose line is not known yet.
@@ -125,8 +143,8 @@ pub(crate) const NOWHERE: Origin = Origin {
     call: 0,
 };
 
-// Returns the first bytes of a word.
-fn shortened(word: &[u8]) -> FaultWord {
+/// Returns the first bytes of a word.
+pub(crate) fn shortened(word: &[u8]) -> FaultWord {
     let mut short = ArrayVec::new();
     for c in word {
         if short.is_full() {
@@ -145,7 +163,54 @@ pub(crate) fn trouble(problem: Problem, word: &[u8]) -> ExpandFault
         problem,
         at: NOWHERE,
         from: NOWHERE,
+        within: ArrayVec::new(),
         word: shortened(word),
+        column: None,
+    }
+}
+
+/// Returns a fault at a line that is not known yet. `column` bytes of the text that is looked at are before the word.
+pub(crate) fn trouble_at(problem: Problem, word: &[u8], column: usize) -> ExpandFault
+    ensures { result.problem ≡ problem }
+{
+    ExpandFault {
+        problem,
+        at: NOWHERE,
+        from: NOWHERE,
+        within: ArrayVec::new(),
+        word: shortened(word),
+        column: Some(column),
+    }
+}
+
+/// Returns a fault in a part of a text as a fault in the text, of which `count` bytes are before that part.
+pub(crate) fn moved(fault: ExpandFault, count: usize) -> ExpandFault
+    ensures { result.problem ≡ fault.problem }
+{
+    ExpandFault {
+        problem: fault.problem,
+        at: fault.at,
+        from: fault.from,
+        within: fault.within,
+        word: fault.word,
+        column: match fault.column {
+            Some(column) => Some(column.saturating_add(count)),
+            None => None,
+        },
+    }
+}
+
+/// Returns a fault whose place in its line is not known.
+pub(crate) fn unplaced(fault: ExpandFault) -> ExpandFault
+    ensures { result.problem ≡ fault.problem }
+{
+    ExpandFault {
+        problem: fault.problem,
+        at: fault.at,
+        from: fault.from,
+        within: fault.within,
+        word: fault.word,
+        column: None,
     }
 }
 
@@ -157,7 +222,9 @@ pub(crate) fn placed(fault: ExpandFault, at: Origin) -> ExpandFault
         problem: fault.problem,
         at: if fault.at.line == 0 { at } else { fault.at },
         from: fault.from,
+        within: fault.within,
         word: fault.word,
+        column: fault.column,
     }
 }
 
@@ -172,7 +239,9 @@ impl From<AllocError> for ExpandFault {
             problem: Problem::Memory,
             at: NOWHERE,
             from: NOWHERE,
+            within: ArrayVec::new(),
             word: ArrayVec::new(),
+            column: None,
         }
     }
 }

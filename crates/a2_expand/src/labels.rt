@@ -1,9 +1,10 @@
 //! Local labels: each gets a name that no other line uses.
 
 use crate::adding::add;
-use crate::builder::Row;
+use crate::builder::{Row, Scope};
 use crate::fault::{ExpandFault, Origin, Problem, placed, trouble};
 use crate::larger::{is_run_byte, parted, quote_after};
+use crate::limits::{MOST_BYTES, MOST_DEPTH, MOST_LINE_BYTES, MOST_NAMES};
 use crate::operand::{put_count, put_decimal};
 use a2_text::front_len;
 use std::alloc::{AllocError, Allocator};
@@ -17,18 +18,20 @@ const MOST_LOCAL_BYTES: usize = 16;
 // The most spellings that are tried for a name.
 const MOST_SPELLINGS: u32 = 2000;
 
-// A local or anonymous label and the name that it gets. An anonymous label has an empty name.
+// A local or anonymous label and the name that it gets, which is the spelling with this number. An anonymous label has no local name.
 #[derive(Drop)]
 struct Made<A: Allocator> {
     scope: usize,
     local: Vec<u8, A>,
     name: Vec<u8, A>,
+    number: u32,
 }
 
 // The labels that have got names, and what is in each of these names and in no other name of the text.
 #[derive(Drop)]
-struct Names<A: Allocator> {
+struct Names<'s, A: Allocator> {
     alloc: A,
+    scopes: &'s [Scope<A>],
     made: Vec<Made<A>, A>,
     anonymous: Vec<Vec<u8, A>, A>,
     mark: Vec<u8, A>,
@@ -126,7 +129,7 @@ fn local_label(line: &[u8]) -> &[u8] {
     }
 }
 
-// Whether a local label is a dot and a name.
+// Whether a local label is a dot and a name, which may begin with a digit.
 fn is_local_name(label: &[u8]) -> bool {
     match label {
         [b'.', name @ ..] => !name.is_empty() && front_len(name, |c| is_run_byte(c)) == name.len(),
@@ -134,47 +137,83 @@ fn is_local_name(label: &[u8]) -> bool {
     }
 }
 
-impl<A: Allocator + Copy> Names<A> {
-    // Returns a name that no label has got.
-    fn fresh(&self, scope: &[u8], local: &[u8]) -> Result<Vec<u8, A>, ExpandFault> {
-        for number in 1..MOST_SPELLINGS {
+// Returns the name of a scope.
+fn scope_name<A: Allocator>(scopes: &[Scope<A>], scope: usize) -> &[u8] {
+    match scopes.get(scope) {
+        Some(found) => found.name.as_slice(),
+        None => b"L",
+    }
+}
+
+impl<'s, A: Allocator + Copy> Names<'s, A> {
+    // Returns the number of the first spelling that the same local name in a scope of the same name has not got.
+    fn first_number(&self, scope: &[u8], label: &[u8]) -> u32 {
+        let mut number = 1;
+        for one in self.made.iter() {
+            if one.local.as_slice() == label && scope_name(self.scopes, one.scope) == scope {
+                number = one.number.saturating_add(1);
+            }
+        }
+        number
+    }
+
+    // Returns a name that no label has got, and its number: the first spelling that is free, from `first` on.
+    fn fresh(
+        &self,
+        scope: &[u8],
+        local: &[u8],
+        first: u32,
+    ) -> Result<(Vec<u8, A>, u32), ExpandFault> {
+        if self.made.len() >= MOST_NAMES {
+            return Err(trouble(Problem::ManyNames, b""));
+        }
+        for number in first..MOST_SPELLINGS {
             let name = spelling(self.alloc, scope, self.mark.as_slice(), local, number)?;
             if name.len() <= MOST_NAME_BYTES && !is_made(self.made.as_slice(), name.as_slice()) {
-                return Ok(name);
+                return Ok((name, number));
             }
         }
         Err(trouble(Problem::NoFreeName, local))
     }
 
+    // Returns the name for a local label of a scope, and its number.
+    fn fresh_local(&self, scope: usize, label: &[u8]) -> Result<(Vec<u8, A>, u32), ExpandFault> {
+        let from = scope_name(self.scopes, scope);
+        let local = label.strip_prefix(b".").unwrap_or(label);
+        self.fresh(from, local, self.first_number(from, label))
+    }
+
     // Gives a local label of a scope a name.
-    fn name_local(
-        &mut self,
-        scope: usize,
-        scope_name: &[u8],
-        label: &[u8],
-    ) -> Result<(), ExpandFault> {
+    fn name_local(&mut self, scope: usize, label: &[u8]) -> Result<(), ExpandFault> {
         if !is_local_name(label) {
             return Err(trouble(Problem::Label, label));
         }
         if name_in(self.made.as_slice(), scope, label).is_some() {
             return Err(trouble(Problem::LocalTwice, label));
         }
-        let name = self.fresh(scope_name, label.strip_prefix(b".").unwrap_or(label))?;
+        let (name, number) = self.fresh_local(scope, label)?;
         let local = Vec::from_slice(self.alloc, label)?;
-        add(&mut self.made, Made { scope, local, name })?;
+        let made = Made {
+            scope,
+            local,
+            name,
+            number,
+        };
+        add(&mut self.made, made)?;
         Ok(())
     }
 
     // Gives an anonymous label a name.
     fn name_anonymous(&mut self) -> Result<(), ExpandFault> {
-        let mut number = Vec::new(self.alloc);
-        put_count(&mut number, self.anonymous.len().saturating_add(1))?;
-        let name = self.fresh(b"ANON", number.as_slice())?;
+        let mut count = Vec::new(self.alloc);
+        put_count(&mut count, self.anonymous.len().saturating_add(1))?;
+        let (name, number) = self.fresh(b"ANON", count.as_slice(), 1)?;
         let copy = Vec::from_slice(self.alloc, name.as_slice())?;
         let made = Made {
             scope: 0,
             local: Vec::new(self.alloc),
             name,
+            number,
         };
         add(&mut self.made, made)?;
         add(&mut self.anonymous, copy)?;
@@ -182,18 +221,12 @@ impl<A: Allocator + Copy> Names<A> {
     }
 
     // Gives the label of a line a name, if it is local.
-    fn name_label(&mut self, row: &Row<A>, scopes: &[Vec<u8, A>]) -> Result<(), ExpandFault> {
+    fn name_label(&mut self, row: &Row<A>) -> Result<(), ExpandFault> {
         let label = local_label(row.text.as_slice());
         match label {
             [] => Ok(()),
             [b':'] => self.name_anonymous(),
-            _ => {
-                let scope_name = match scopes.get(row.scope) {
-                    Some(name) => name.as_slice(),
-                    None => b"L",
-                };
-                self.name_local(row.scope, scope_name, label)
-            }
+            _ => self.name_local(row.scope, label),
         }
     }
 
@@ -219,10 +252,23 @@ impl<A: Allocator + Copy> Names<A> {
         if let [b':', ..] = reference {
             return self.anonymous_name(reference, count);
         }
-        match name_in(self.made.as_slice(), scope, reference) {
+        match self.local_name(scope, reference) {
             Some(name) => Ok(name),
             None => Err(trouble(Problem::UnknownLocal, reference)),
         }
+    }
+
+    // Returns the name of a local label in a scope, or in a scope around it.
+    fn local_name(&self, scope: usize, reference: &[u8]) -> Option<&[u8]> {
+        let mut now = scope;
+        for _ in 0..=MOST_DEPTH {
+            let found = name_in(self.made.as_slice(), now, reference);
+            if found.is_some() {
+                return found;
+            }
+            now = self.scopes.get(now)?.around?;
+        }
+        None
     }
 }
 
@@ -248,7 +294,7 @@ fn put_named<A: Allocator + Copy>(
     text: &[u8],
     scope: usize,
     count: usize,
-    names: &Names<A>,
+    names: &Names<'_, A>,
 ) -> Result<(), ExpandFault> {
     let mut rest = text;
     let mut quote = None;
@@ -282,7 +328,7 @@ fn put_named<A: Allocator + Copy>(
 fn named_line<A: Allocator + Copy>(
     row: &Row<A>,
     count: usize,
-    names: &Names<A>,
+    names: &Names<'_, A>,
 ) -> Result<Vec<u8, A>, ExpandFault> {
     let line = row.text.as_slice();
     let mut out = Vec::new(names.alloc);
@@ -298,23 +344,27 @@ fn named_line<A: Allocator + Copy>(
     } else {
         put_named(&mut out, rest, row.scope, count, names)?;
     }
+    if out.len() > MOST_LINE_BYTES {
+        return Err(trouble(Problem::LongLine, b""));
+    }
     Ok(out)
 }
 
 // Gives each local label a name.
-fn names_of<A: Allocator + Copy>(
+fn names_of<'s, A: Allocator + Copy>(
     alloc: A,
     rows: &[Row<A>],
-    scopes: &[Vec<u8, A>],
-) -> Result<Names<A>, ExpandFault> {
+    scopes: &'s [Scope<A>],
+) -> Result<Names<'s, A>, ExpandFault> {
     let mut names = Names {
         alloc,
+        scopes,
         made: Vec::new(alloc),
         anonymous: Vec::new(alloc),
         mark: mark_of(alloc, rows)?,
     };
     for row in rows {
-        if let Err(fault) = names.name_label(row, scopes) {
+        if let Err(fault) = names.name_label(row) {
             return Err(placed(fault, row.at));
         }
     }
@@ -332,7 +382,7 @@ pub(crate) struct Lines<A: Allocator> {
 pub(crate) fn named_text<A: Allocator + Copy>(
     alloc: A,
     rows: &[Row<A>],
-    scopes: &[Vec<u8, A>],
+    scopes: &[Scope<A>],
 ) -> Result<Lines<A>, ExpandFault> {
     let names = names_of(alloc, rows, scopes)?;
     let mut text = Vec::new(alloc);
@@ -347,6 +397,9 @@ pub(crate) fn named_text<A: Allocator + Copy>(
             Err(fault) => return Err(placed(fault, row.at)),
         }
         text.extend_from_slice(b"\n")?;
+        if text.len() > MOST_BYTES {
+            return Err(placed(trouble(Problem::ManyBytes, b""), row.at));
+        }
         add(&mut origins, row.at)?;
     }
     Ok(Lines { text, origins })

@@ -224,6 +224,37 @@ fn has_larger_line(lines: &[&[u8]]) -> bool
     false
 }
 
+// Whether the operation of a line is one of the larger language.
+fn has_larger_word(line: &[u8]) -> bool
+    ensures { result ≡ larger.has_larger_word line.now }
+{
+    let (_, rest) = parted(line);
+    let (operation, _) = parted(after_blanks(rest));
+    !line.starts_with(b"*") && is_larger_word(operation)
+}
+
+// Whether the operation of one of these lines is one of the larger language.
+fn have_larger_word(lines: &[&[u8]]) -> bool
+    ensures { result ≡ list_any larger.has_larger_word (map (λ x. x.now) lines.now) }
+{
+    for line in lines {
+        if has_larger_word(*line) {
+            return true;
+        }
+    }
+    false
+}
+
+/// Returns whether the operation of a line of a text is one of the larger language, as `MACRO`. Other lines that use the larger language
+/// might be lines of the plain one with a mistake. Fails only if memory runs out.
+#[tactic(auto, unfolding(crate::specs::Larger::uses_larger_operation))]
+pub fn uses_larger_operation<A: Allocator>(alloc: A, text: &[u8]) -> Result<bool, AllocError>
+    ensures { IfOk result (λ is. is ≡ larger.uses_larger_operation text.now) }
+{
+    let lines = cut(alloc, text)?;
+    Ok(have_larger_word(lines.as_slice()))
+}
+
 /// Returns whether no line of a text uses the larger language. Fails only if memory runs out.
 #[tactic(auto, unfolding(crate::specs::Larger::uses_nothing_larger))]
 pub fn uses_nothing_larger<A: Allocator>(alloc: A, text: &[u8]) -> Result<bool, AllocError>

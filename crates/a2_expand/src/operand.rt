@@ -2,7 +2,7 @@
 
 use crate::fault::{ExpandFault, Problem, trouble};
 use crate::larger::is_larger_operand;
-use crate::token::{Token, tokens_of};
+use crate::token::{Placed, Token, tokens_of};
 use crate::value::{Constant, constant_of, evaluate};
 use a2_text::decimal;
 use std::alloc::{AllocError, Allocator};
@@ -61,9 +61,9 @@ fn is_address<A: Allocator>(token: &Token<'_>, constants: &[Constant<A>]) -> boo
 }
 
 // Whether an expression has an address whose value is not known here.
-fn has_address<A: Allocator>(tokens: &[Token<'_>], constants: &[Constant<A>]) -> bool {
-    for token in tokens {
-        if is_address(token, constants) {
+fn has_address<A: Allocator>(tokens: &[Placed<'_>], constants: &[Constant<A>]) -> bool {
+    for placed in tokens {
+        if is_address(&placed.token, constants) {
             return true;
         }
     }
@@ -71,10 +71,10 @@ fn has_address<A: Allocator>(tokens: &[Token<'_>], constants: &[Constant<A>]) ->
 }
 
 // Whether an operator other than `+` and `-` joins terms at the level of sums.
-fn has_loose_operator(tokens: &[Token<'_>]) -> bool {
-    for token in tokens {
+fn has_loose_operator(tokens: &[Placed<'_>]) -> bool {
+    for placed in tokens {
         if matches!(
-            token,
+            placed.token,
             Token::Sign(b'|') | Token::Sign(b'=') | Token::Pair(b'<', b'>') | Token::Pair(_, b'=')
         ) {
             return true;
@@ -84,25 +84,25 @@ fn has_loose_operator(tokens: &[Token<'_>]) -> bool {
 }
 
 // Returns how many tokens the first term of a sum has.
-fn term_len(tokens: &[Token<'_>]) -> usize {
+fn term_len(tokens: &[Placed<'_>]) -> usize {
     let mut depth: u32 = 0;
     let mut after_term = false;
-    for (i, token) in tokens.iter().enumerate() {
-        match token {
+    for (i, placed) in tokens.iter().enumerate() {
+        match placed.token {
             Token::Sign(b'(') => depth = depth.saturating_add(1),
             Token::Sign(b')') => depth = depth.saturating_sub(1),
             Token::Sign(b'+') | Token::Sign(b'-') if depth == 0 && after_term => return i,
             _ => {}
         }
-        after_term = token.ends_term();
+        after_term = placed.token.ends_term();
     }
     tokens.len()
 }
 
 // Whether a term is an address alone.
-fn is_single_address<A: Allocator>(term: &[Token<'_>], constants: &[Constant<A>]) -> bool {
+fn is_single_address<A: Allocator>(term: &[Placed<'_>], constants: &[Constant<A>]) -> bool {
     match term {
-        [token] => is_address(token, constants),
+        [placed] => is_address(&placed.token, constants),
         _ => false,
     }
 }
@@ -120,17 +120,15 @@ fn sign_of(first: bool, minus: bool) -> &'static [u8] {
 // Appends an address with its sign.
 fn put_address<A: Allocator>(
     out: &mut Vec<u8, A>,
-    term: &[Token<'_>],
+    term: &[Placed<'_>],
     first: bool,
     minus: bool,
 ) -> Result<(), AllocError> {
     out.extend_from_slice(sign_of(first, minus))?;
-    match term {
-        [Token::Name(name)] => out.extend_from_slice(name),
-        [Token::Local(name)] => out.extend_from_slice(name),
-        [Token::Anonymous(name)] => out.extend_from_slice(name),
-        _ => out.extend_from_slice(b"*"),
+    for placed in term {
+        out.extend_from_slice(placed.text)?;
     }
+    Ok(())
 }
 
 // Appends the number that is added to a sum.
@@ -163,16 +161,22 @@ fn added(total: i32, value: i32, minus: bool) -> Result<i32, ExpandFault> {
 }
 
 // The first term of a sum that begins at an index, and the sign after the term.
-fn term_at<'s, 'a>(tokens: &'s [Token<'a>], index: usize) -> (&'s [Token<'a>], Option<Token<'a>>) {
+fn term_at<'s, 'a>(
+    tokens: &'s [Placed<'a>],
+    index: usize,
+) -> (&'s [Placed<'a>], Option<Token<'a>>) {
     let (_, rest) = tokens.split_at(index.min(tokens.len()));
     let (term, following) = rest.split_at(term_len(rest).min(rest.len()));
-    (term, following.first().copied())
+    match following {
+        [placed, ..] => (term, Some(placed.token)),
+        [] => (term, None),
+    }
 }
 
 // Appends a sum that has addresses: each as it is, and the sum of the other terms.
 fn put_sum<A: Allocator + Copy>(
     out: &mut Vec<u8, A>,
-    tokens: &[Token<'_>],
+    tokens: &[Placed<'_>],
     known: &Known<'_, A>,
 ) -> Result<(), ExpandFault> {
     let mut index: usize = 0;
@@ -197,18 +201,22 @@ fn put_sum<A: Allocator + Copy>(
     put_rest(out, total)
 }
 
+// Whether a token is this sign.
+fn is_sign(placed: &Placed<'_>, sign: u8) -> bool {
+    match placed.token {
+        Token::Sign(c) => c == sign,
+        _ => false,
+    }
+}
+
 // Appends `<` or `>` if the expression begins with it, and returns the rest.
 fn put_part<'s, 'a, A: Allocator>(
     out: &mut Vec<u8, A>,
-    tokens: &'s [Token<'a>],
-) -> Result<&'s [Token<'a>], AllocError> {
+    tokens: &'s [Placed<'a>],
+) -> Result<&'s [Placed<'a>], AllocError> {
     match tokens {
-        [Token::Sign(b'<'), rest @ ..] => {
-            out.extend_from_slice(b"<")?;
-            Ok(rest)
-        }
-        [Token::Sign(b'>'), rest @ ..] => {
-            out.extend_from_slice(b">")?;
+        [sign, rest @ ..] if is_sign(sign, b'<') || is_sign(sign, b'>') => {
+            out.extend_from_slice(sign.text)?;
             Ok(rest)
         }
         _ => Ok(tokens),
@@ -218,7 +226,7 @@ fn put_part<'s, 'a, A: Allocator>(
 // Appends an expression.
 fn put_tokens<A: Allocator + Copy>(
     out: &mut Vec<u8, A>,
-    tokens: &[Token<'_>],
+    tokens: &[Placed<'_>],
     known: &Known<'_, A>,
     width: Width,
 ) -> Result<(), ExpandFault> {
@@ -256,18 +264,18 @@ pub(crate) fn value_of<A: Allocator + Copy>(
 }
 
 // Whether a token is the letter of a register, in upper or lower case.
-fn is_letter(token: &Token<'_>, letter: u8) -> bool {
-    match token {
+fn is_letter(placed: &Placed<'_>, letter: u8) -> bool {
+    match placed.token {
         Token::Name([c]) => *c == letter || *c == (letter | 32),
         _ => false,
     }
 }
 
 // Whether brackets around these tokens would belong together.
-fn are_enclosed(tokens: &[Token<'_>]) -> bool {
+fn are_enclosed(tokens: &[Placed<'_>]) -> bool {
     let mut depth: u32 = 0;
-    for token in tokens {
-        match token {
+    for placed in tokens {
+        match placed.token {
             Token::Sign(b'(') => depth = depth.saturating_add(1),
             Token::Sign(b')') => {
                 if depth == 0 {
@@ -284,7 +292,7 @@ fn are_enclosed(tokens: &[Token<'_>]) -> bool {
 // Appends an expression between two texts.
 fn put_between<A: Allocator + Copy>(
     out: &mut Vec<u8, A>,
-    tokens: &[Token<'_>],
+    tokens: &[Placed<'_>],
     known: &Known<'_, A>,
     around: (&[u8], &[u8]),
 ) -> Result<(), ExpandFault> {
@@ -297,11 +305,11 @@ fn put_between<A: Allocator + Copy>(
 // Appends an operand in brackets, without them.
 fn put_inner<A: Allocator + Copy>(
     out: &mut Vec<u8, A>,
-    tokens: &[Token<'_>],
+    tokens: &[Placed<'_>],
     known: &Known<'_, A>,
 ) -> Result<(), ExpandFault> {
     match tokens {
-        [es @ .., Token::Sign(b','), x] if is_letter(x, b'X') => {
+        [es @ .., comma, x] if is_sign(comma, b',') && is_letter(x, b'X') => {
             put_between(out, es, known, (b"(", b",X)"))
         }
         _ => put_between(out, tokens, known, (b"(", b")")),
@@ -311,44 +319,55 @@ fn put_inner<A: Allocator + Copy>(
 // Appends an operand with or without an index.
 fn put_direct<A: Allocator + Copy>(
     out: &mut Vec<u8, A>,
-    tokens: &[Token<'_>],
+    tokens: &[Placed<'_>],
     known: &Known<'_, A>,
 ) -> Result<(), ExpandFault> {
     match tokens {
-        [es @ .., Token::Sign(b','), x] if is_letter(x, b'X') => {
+        [es @ .., comma, x] if is_sign(comma, b',') && is_letter(x, b'X') => {
             put_between(out, es, known, (b"", b",X"))
         }
-        [es @ .., Token::Sign(b','), y] if is_letter(y, b'Y') => {
+        [es @ .., comma, y] if is_sign(comma, b',') && is_letter(y, b'Y') => {
             put_between(out, es, known, (b"", b",Y"))
         }
         _ => put_between(out, tokens, known, (b"", b"")),
     }
 }
 
+// Returns what is in brackets around all of these tokens, if there are such brackets.
+fn enclosed<'s, 'a>(tokens: &'s [Placed<'a>]) -> Option<&'s [Placed<'a>]> {
+    match tokens {
+        [open, inner @ .., close]
+            if is_sign(open, b'(') && is_sign(close, b')') && are_enclosed(inner) => { Some(inner) }
+        _ => None,
+    }
+}
+
+// Returns what is in the brackets of an operand `(..),Y`, if it is one.
+fn enclosed_before_y<'s, 'a>(tokens: &'s [Placed<'a>]) -> Option<&'s [Placed<'a>]> {
+    match tokens {
+        [front @ .., comma, y] if is_sign(comma, b',') && is_letter(y, b'Y') => enclosed(front),
+        _ => None,
+    }
+}
+
 // Appends the operand of an instruction.
 fn put_shape<A: Allocator + Copy>(
     out: &mut Vec<u8, A>,
-    tokens: &[Token<'_>],
+    tokens: &[Placed<'_>],
     known: &Known<'_, A>,
 ) -> Result<(), ExpandFault> {
-    match tokens {
-        [Token::Sign(b'#'), es @ ..] => {
+    if let [hash, es @ ..] = tokens {
+        if is_sign(hash, b'#') {
             out.extend_from_slice(b"#")?;
-            put_tokens(out, es, known, Width::Byte)
+            return put_tokens(out, es, known, Width::Byte);
         }
-        [Token::Sign(b'('), inner @ .., Token::Sign(b')')] if are_enclosed(inner) => {
-            put_inner(out, inner, known)
-        }
-        [
-            Token::Sign(b'('),
-            inner @ ..,
-            Token::Sign(b')'),
-            Token::Sign(b','),
-            y,
-        ] if is_letter(y, b'Y') && are_enclosed(inner) => {
-            put_between(out, inner, known, (b"(", b"),Y"))
-        }
-        _ => put_direct(out, tokens, known),
+    }
+    if let Some(inner) = enclosed(tokens) {
+        return put_inner(out, inner, known);
+    }
+    match enclosed_before_y(tokens) {
+        Some(inner) => put_between(out, inner, known, (b"(", b"),Y")),
+        None => put_direct(out, tokens, known),
     }
 }
 

@@ -1,7 +1,7 @@
 //! The parts of a line.
 
-use crate::larger::{parted, quote_after};
-use a2_text::{after_blanks, capital};
+use crate::larger::{is_run_byte, parted, quote_after};
+use a2_text::{after_blanks, capital, front_len};
 use arrayvec::ArrayVec;
 
 /// The parts of a line; each may be empty.
@@ -11,6 +11,8 @@ pub(crate) struct Parts<'a> {
     pub operation: &'a [u8],
     pub operand: &'a [u8],
     pub comment: &'a [u8],
+    /// How many bytes of the line are before the operand.
+    pub operand_at: usize,
 }
 
 // Returns the number of bytes before the comment of a text.
@@ -33,6 +35,7 @@ pub(crate) fn parts_of(line: &[u8]) -> Parts<'_> {
             operation: b"",
             operand: b"",
             comment: line,
+            operand_at: 0,
         };
     }
     let (label, rest) = parted(line);
@@ -44,6 +47,7 @@ pub(crate) fn parts_of(line: &[u8]) -> Parts<'_> {
         operation,
         operand: operand.trim_ascii_end(),
         comment,
+        operand_at: line.len().saturating_sub(rest.len()),
     }
 }
 
@@ -126,6 +130,14 @@ fn block_word(letters: &[u8]) -> Word {
     }
 }
 
+/// Whether a text can be a name: letters, digits and `_`, and not a digit first.
+pub(crate) fn is_name(text: &[u8]) -> bool {
+    match text {
+        [b'0'..=b'9', ..] | [] => false,
+        _ => front_len(text, |c| is_run_byte(c)) == text.len(),
+    }
+}
+
 /// Returns what an operation does, in upper or lower case.
 pub(crate) fn word_of(operation: &[u8]) -> Word {
     let mut letters: ArrayVec<u8, 12> = ArrayVec::new();
@@ -148,6 +160,11 @@ fn depth_after(depth: u32, c: u8) -> u32 {
         b')' => depth.saturating_sub(1),
         _ => depth,
     }
+}
+
+/// Returns how many bytes of a list are before its last part, `rest`, and the blanks at the beginning of that.
+pub(crate) fn place_in_list(list: &[u8], rest: &[u8]) -> usize {
+    list.len().saturating_sub(rest.trim_ascii_start().len())
 }
 
 /// Returns the first item of a list, without blanks around it, and what follows the comma after it, if there is one. A comma in quotes

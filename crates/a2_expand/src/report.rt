@@ -1,6 +1,10 @@
 //! The messages of faults.
 
+ghost use Rattle.std.specs.Prelude.{◌≡◌, IfOk};
+
 use crate::fault::{ExpandFault, Problem};
+use crate::larger::{is_run_byte, quote_after};
+use crate::limits::{MOST_LINE_BYTES, limit_of};
 use a2_text::{cut, decimal};
 use std::alloc::{AllocError, Allocator};
 
@@ -11,14 +15,15 @@ pub struct FaultText<'a> {
     pub source: &'a [u8],
 }
 
-// Returns what is wrong with an expression or a label; `@` is where the wrong word goes.
+// Returns what is wrong with an expression or a label; `@` is where the wrong word goes, and `#` where the limit goes.
 fn expression_message(problem: Problem) -> &'static [u8] {
     match problem {
         Problem::Label => b"`@` is not a local label",
         Problem::NeedsLabel => b"`@` needs a name in column 1",
         Problem::TakesNoLabel => b"a label is not allowed here",
         Problem::NeedsOperand => b"the operation needs an operand",
-        Problem::Expression => b"the expression is not complete, or `@` is not allowed in it",
+        Problem::Expression => b"`@` is not allowed in this expression",
+        Problem::Incomplete => b"the expression is not complete",
         Problem::Bracket => b"a parenthesis has no partner",
         Problem::UnknownValue => b"the value of `@` is not known in this line",
         Problem::AddressHere => b"the address of the line is not known yet",
@@ -47,10 +52,12 @@ fn block_message(problem: Problem) -> &'static [u8] {
         Problem::MacroName => b"`@` cannot be the name of a macro",
         Problem::MacroTwice => b"the macro `@` is defined twice",
         Problem::Parameter => b"`@` cannot be a parameter",
+        Problem::ParameterTwice => b"the macro has two parameters `@`",
+        Problem::Counter => b"`@` cannot be the counter of REPEAT",
         Problem::NestedMacro => b"a macro cannot be defined in a macro or in REPEAT",
         Problem::ManyArguments => b"the macro has no parameter for `@`",
         Problem::FewArguments => b"the parameter `@` has no value",
-        Problem::Depth => b"macros, REPEAT and files are nested more than 64 deep",
+        Problem::Depth => b"macros, REPEAT and files are nested more than # deep",
         Problem::FileName => b"`@` is not the name of a file in quotes",
         Problem::OutsideFolder => b"the file `@` is outside the folder of the source",
         Problem::NeedsFile => b"the file `@` cannot be read",
@@ -65,10 +72,14 @@ fn block_message(problem: Problem) -> &'static [u8] {
 // Returns what is wrong with the size of an expansion.
 fn size_message(problem: Problem) -> &'static [u8] {
     match problem {
-        Problem::ManyLines => b"the expansion has more than 4096 lines",
-        Problem::ManyBytes => b"the expansion has more than 65536 bytes",
-        Problem::LongLine => b"a line of the expansion has more than 255 bytes",
-        Problem::ManySteps => b"the expansion reads more than 200000 lines",
+        Problem::ManyLines => b"the expansion has more than # lines",
+        Problem::ManyBytes => b"the expansion has more than # bytes",
+        Problem::ManyNames => b"the expansion has more than # local labels",
+        Problem::LongSource => b"the line has more than # bytes",
+        Problem::GrownLine => b"the text for `@` makes this line longer than # bytes",
+        Problem::LongLine => b"this line becomes a line of more than # bytes",
+        Problem::ManySteps => b"the expansion reads more than # lines",
+        Problem::ManyFiles => b"the source includes more than # files",
         Problem::Remains => b"a line of the expansion is not in the plain language",
         _ => b"there is no memory",
     }
@@ -94,7 +105,8 @@ fn expression_fix(problem: Problem) -> &'static [u8] {
         Problem::NeedsLabel => b"write a name in column 1",
         Problem::TakesNoLabel => b"remove the label",
         Problem::NeedsOperand => b"write an operand",
-        Problem::Expression => b"write a number or a name between two operators",
+        Problem::Expression => b"write numbers and names with an operator between them",
+        Problem::Incomplete => b"write a number or a name at its end",
         Problem::Bracket => b"write ( and ) in pairs",
         Problem::UnknownValue =>
             b"define it above with EQU and a number; an address can only be added or subtracted",
@@ -123,8 +135,9 @@ fn block_fix(problem: Problem) -> &'static [u8] {
             b"close it with ENDIF, ENDREPEAT, ENDMACRO, ENDPROC, ENDENUM or ENDSTRUCT",
         Problem::Unopened => b"remove it, or open the block above",
         Problem::AfterElse => b"remove one of them",
-        Problem::MacroName => b"use a name that is not an operation",
-        Problem::MacroTwice => b"use another name",
+        Problem::MacroName => b"use a name that is not an operation or an instruction",
+        Problem::MacroTwice | Problem::ParameterTwice => b"use another name",
+        Problem::Counter => b"write a name, as in REPEAT 8,I",
         Problem::Parameter => b"write a name, as in MACRO MOVE from,to=$300",
         Problem::NestedMacro => b"define it outside",
         Problem::ManyArguments => b"remove it, or add a parameter to the macro",
@@ -144,7 +157,11 @@ fn size_fix(problem: Problem) -> &'static [u8] {
     match problem {
         Problem::ManyLines | Problem::ManyBytes =>
             b"repeat fewer lines, or call a subroutine in place of a macro",
-        Problem::LongLine => b"write the items on two lines",
+        Problem::ManyNames => b"repeat fewer lines, or call a subroutine in place of a macro",
+        Problem::LongSource | Problem::LongLine => b"write it as two lines",
+        Problem::GrownLine =>
+            b"pass on a shorter text; a macro that calls itself may not pass a parameter on twice",
+        Problem::ManyFiles => b"join some of them",
         Problem::ManySteps => b"repeat less, or end the recursion with IF",
         Problem::Remains => b"write the line in another way",
         Problem::Assertion | Problem::Asked => b"the source demands it here",
@@ -165,51 +182,149 @@ fn fix(problem: Problem) -> &'static [u8] {
     size_fix(problem)
 }
 
-// Appends a sentence with a word in place of `@`.
+// Appends bytes as shown characters: a tab as a blank, and another byte that cannot be printed as `?`.
+fn put_shown<A: Allocator>(out: &mut Vec<u8, A>, text: &[u8]) -> Result<(), AllocError> {
+    for c in text {
+        let shown = match *c {
+            b' '..=b'~' => *c,
+            b'\t' => b' ',
+            _ => b'?',
+        };
+        out.push(shown)?;
+    }
+    Ok(())
+}
+
+// Appends a sentence with a word in place of `@`, and a limit in place of `#`.
 fn put_sentence<A: Allocator>(
     out: &mut Vec<u8, A>,
     sentence: &[u8],
-    word: &[u8],
+    fault: &ExpandFault,
 ) -> Result<(), AllocError> {
     for c in sentence {
-        if *c == b'@' {
-            out.extend_from_slice(word)?;
-        } else {
-            out.extend_from_slice(&[*c])?;
+        match *c {
+            b'@' => put_shown(out, fault.word.as_slice())?,
+            b'#' => out.extend_from_slice(decimal(limit_of(fault.problem) as u64).as_slice())?,
+            c => out.push(c)?,
         }
     }
     Ok(())
 }
 
-// Returns the index where a word begins in a line, or of the first byte that is not a blank.
-fn place_in(line: &[u8], word: &[u8]) -> usize {
-    let mut rest = line;
-    if !word.is_empty() {
-        for i in 0..line.len() {
-            if rest.starts_with(word) {
-                return i;
-            }
-            let Some((_, following)) = rest.split_first() else {
-                break;
-            };
-            rest = following;
-        }
+// Whether a text begins with a word that ends there: no other byte of a name follows it.
+fn begins_with_word(text: &[u8], word: &[u8]) -> bool {
+    let Some(rest) = text.strip_prefix(word) else {
+        return false;
+    };
+    match (word.last(), rest.first()) {
+        (Some(end), Some(next)) => !is_run_byte(*end) || !is_run_byte(*next),
+        _ => true,
     }
-    for (i, c) in line.iter().enumerate() {
-        if *c != b' ' && *c != b'\t' {
-            return i;
-        }
-    }
-    0
 }
 
-// Returns how many bytes are marked.
+// Whether a word begins with a byte of a name.
+fn begins_with_run(word: &[u8]) -> bool {
+    match word.first() {
+        Some(c) => is_run_byte(*c),
+        None => false,
+    }
+}
+
+// Returns the index where a word begins in a line: the whole word, and, unless `in_texts`, not inside a text in quotes.
+fn word_in(line: &[u8], word: &[u8], in_texts: bool) -> Option<usize> {
+    let mut rest = line;
+    let mut quote = None;
+    let mut last = b' ';
+    for i in 0..line.len() {
+        let continues = is_run_byte(last) && begins_with_run(word);
+        let may_begin = (in_texts || quote.is_none()) && !continues;
+        if may_begin && begins_with_word(rest, word) {
+            return Some(i);
+        }
+        let (c, following) = rest.split_first()?;
+        quote = quote_after(quote, *c);
+        last = *c;
+        rest = following;
+    }
+    None
+}
+
+// Returns the index of the first byte of a line that is not a blank.
+fn first_in(line: &[u8]) -> usize {
+    line.len().saturating_sub(line.trim_ascii_start().len())
+}
+
+// Returns the index where the word of a fault begins in its line. The word of a parameter is not in the line that lacks an argument.
+fn place_in(line: &[u8], fault: &ExpandFault) -> usize {
+    if let Some(column) = fault.column {
+        return column.min(line.len());
+    }
+    let word = fault.word.as_slice();
+    if word.is_empty() || fault.problem == Problem::FewArguments {
+        return first_in(line);
+    }
+    let at = word_in(line, word, false).or(word_in(line, word, true));
+    at.unwrap_or(first_in(line))
+}
+
+// Returns how many bytes are marked: those of the word, or the rest of the line.
 fn marked_len(line: &[u8], word: &[u8], at: usize) -> usize {
     let (_, rest) = line.split_at(at.min(line.len()));
     if !word.is_empty() && rest.starts_with(word) {
         return word.len();
     }
     rest.trim_ascii_end().len().max(1)
+}
+
+/// A fault in words.
+#[derive(Drop)]
+pub struct FaultReport<A: Allocator> {
+    /// The number of the line in its file, from 1.
+    pub line: usize,
+    /// The column in which the word begins that is wrong, from 1, and how many bytes it has.
+    pub column: usize,
+    pub width: usize,
+    /// What is wrong.
+    pub text: Vec<u8, A>,
+    /// How to fix it.
+    pub fix: Vec<u8, A>,
+}
+
+// Returns the line of a source that has this number.
+fn line_of<'s, A: Allocator>(
+    alloc: A,
+    source: &'s [u8],
+    number: usize,
+) -> Result<&'s [u8], AllocError> {
+    let lines = cut(alloc, source)?;
+    match lines.get(number.saturating_sub(1)) {
+        Some(line) => Ok(*line),
+        None => Ok(b""),
+    }
+}
+
+/// Returns the place of a fault in `source`, the text of the file in which it is, what is wrong, and how to fix it. Fails only if memory
+/// runs out.
+pub fn fault_report<A: Allocator + Copy>(
+    alloc: A,
+    source: &[u8],
+    fault: &ExpandFault,
+) -> Result<FaultReport<A>, AllocError>
+    ensures line { IfOk result (λ report. report.line ≡ fault.now.at.line) }
+{
+    let line = line_of(alloc, source, fault.at.line)?;
+    let at = place_in(line, fault);
+    let mut text = Vec::new(alloc);
+    put_sentence(&mut text, message(fault.problem), fault)?;
+    let mut remedy = Vec::new(alloc);
+    put_sentence(&mut remedy, fix(fault.problem), fault)?;
+    Ok(FaultReport {
+        line: fault.at.line,
+        column: at.saturating_add(1),
+        width: marked_len(line, fault.word.as_slice(), at),
+        text,
+        fix: remedy,
+    })
 }
 
 // Appends a byte several times.
@@ -220,50 +335,48 @@ fn put_times<A: Allocator>(out: &mut Vec<u8, A>, c: u8, times: usize) -> Result<
     Ok(())
 }
 
-// Appends a number, at least four characters wide.
+// Appends a number.
 fn put_number<A: Allocator>(out: &mut Vec<u8, A>, number: usize) -> Result<(), AllocError> {
-    let digits = decimal(number as u64);
-    let digits = digits.as_slice();
-    put_times(out, b' ', 4usize.saturating_sub(digits.len()))?;
-    out.extend_from_slice(digits)
+    out.extend_from_slice(decimal(number as u64).as_slice())
 }
 
-// Appends the line of a fault, and a mark below the word that is wrong.
+// Appends the line of a fault, and a mark below the word that is wrong. A line that is too long is not shown.
 fn put_marked<A: Allocator>(
     out: &mut Vec<u8, A>,
-    fault: &ExpandFault,
+    report: &FaultReport<A>,
     line: &[u8],
-    at: usize,
 ) -> Result<(), AllocError> {
-    put_number(out, fault.at.line)?;
+    if line.len() > MOST_LINE_BYTES {
+        return out.extend_from_slice(b"     = ");
+    }
+    let digits = decimal(report.line as u64).len();
+    put_times(out, b' ', 4usize.saturating_sub(digits))?;
+    put_number(out, report.line)?;
     out.extend_from_slice(b" | ")?;
-    out.extend_from_slice(line)?;
+    put_shown(out, line)?;
     out.extend_from_slice(b"\n     | ")?;
-    put_times(out, b' ', at)?;
-    put_times(out, b'^', marked_len(line, fault.word.as_slice(), at))?;
-    out.extend_from_slice(b" ")?;
-    out.extend_from_slice(fix(fault.problem))?;
-    out.extend_from_slice(b"\n")
+    put_times(out, b' ', report.column.saturating_sub(1))?;
+    put_times(out, b'^', report.width)?;
+    out.extend_from_slice(b" ")
 }
 
 // Appends where a fault is, and what is wrong.
 fn put_head<A: Allocator>(
     out: &mut Vec<u8, A>,
-    fault: &ExpandFault,
-    text: FaultText<'_>,
-    at: usize,
+    report: &FaultReport<A>,
+    file: &[u8],
 ) -> Result<(), AllocError> {
     out.extend_from_slice(b"error: ")?;
-    if fault.at.file > 0 {
-        out.extend_from_slice(text.name)?;
+    if !file.is_empty() {
+        out.extend_from_slice(file)?;
         out.extend_from_slice(b": ")?;
     }
     out.extend_from_slice(b"line ")?;
-    out.extend_from_slice(decimal(fault.at.line as u64).as_slice())?;
+    put_number(out, report.line)?;
     out.extend_from_slice(b", column ")?;
-    out.extend_from_slice(decimal((at as u64).saturating_add(1)).as_slice())?;
+    put_number(out, report.column)?;
     out.extend_from_slice(b": ")?;
-    put_sentence(out, message(fault.problem), fault.word.as_slice())?;
+    out.extend_from_slice(report.text.as_slice())?;
     out.extend_from_slice(b"\n")
 }
 
@@ -273,14 +386,13 @@ pub fn fault_message<A: Allocator + Copy>(
     text: FaultText<'_>,
     fault: &ExpandFault,
 ) -> Result<Vec<u8, A>, AllocError> {
+    let report = fault_report(alloc, text.source, fault)?;
+    let line = line_of(alloc, text.source, fault.at.line)?;
+    let file = if fault.at.file > 0 { text.name } else { b"" };
     let mut out = Vec::new(alloc);
-    let lines = cut(alloc, text.source)?;
-    let line: &[u8] = match lines.get(fault.at.line.saturating_sub(1)) {
-        Some(line) => *line,
-        None => b"",
-    };
-    let at = place_in(line, fault.word.as_slice());
-    put_head(&mut out, fault, text, at)?;
-    put_marked(&mut out, fault, line, at)?;
+    put_head(&mut out, &report, file)?;
+    put_marked(&mut out, &report, line)?;
+    out.extend_from_slice(report.fix.as_slice())?;
+    out.extend_from_slice(b"\n")?;
     Ok(out)
 }

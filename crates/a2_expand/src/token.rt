@@ -169,19 +169,45 @@ pub(crate) fn split_token(text: &[u8], after_term: bool) -> Option<(Token<'_>, &
     })
 }
 
+/// A token and its place.
+#[derive(Clone, Copy)]
+pub(crate) struct Placed<'a> {
+    pub token: Token<'a>,
+    /// The bytes of the token.
+    pub text: &'a [u8],
+    /// How many bytes of the operand are before it.
+    pub at: usize,
+}
+
+// Returns a token with its place in an operand. `rest` begins with it, and `following` is the text after it.
+fn placed_token<'a>(
+    token: Token<'a>,
+    operand: &[u8],
+    rest: &'a [u8],
+    following: &[u8],
+) -> Placed<'a> {
+    let (text, _) = cut_at(rest, rest.len().saturating_sub(following.len()));
+    Placed {
+        token,
+        text,
+        at: operand.len().saturating_sub(rest.len()),
+    }
+}
+
 /// Returns the tokens of an operand.
 pub(crate) fn tokens_of<'t, A: Allocator>(
     alloc: A,
     text: &'t [u8],
-) -> Result<Vec<Token<'t>, A>, AllocError> {
+) -> Result<Vec<Placed<'t>, A>, AllocError> {
     let mut found = Vec::new(alloc);
     let mut rest = text;
     let mut after_term = false;
     for _ in 0..text.len() {
+        rest = after_blanks(rest);
         let Some((token, following)) = split_token(rest, after_term) else {
             break;
         };
-        found.push(token)?;
+        found.push(placed_token(token, text, rest, following))?;
         after_term = token.ends_term();
         rest = following;
     }

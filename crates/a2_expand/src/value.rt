@@ -1,8 +1,8 @@
 //! The value of an expression whose names are all known.
 
 use crate::adding::add;
-use crate::fault::{ExpandFault, Problem, trouble};
-use crate::token::Token;
+use crate::fault::{ExpandFault, Problem, trouble, trouble_at};
+use crate::token::{Placed, Token};
 use std::alloc::Allocator;
 
 /// A name whose value is known.
@@ -191,7 +191,7 @@ struct Calculator<A: Allocator> {
 // Replaces the last values by the value of an operator.
 fn apply<A: Allocator>(values: &mut Vec<i32, A>, operator: Operator) -> Result<(), ExpandFault> {
     let Some(b) = values.pop() else {
-        return Err(trouble(Problem::Expression, b""));
+        return Err(trouble(Problem::Incomplete, b""));
     };
     if operator.is_unary() {
         let Some(value) = changed(operator, b) else {
@@ -201,7 +201,7 @@ fn apply<A: Allocator>(values: &mut Vec<i32, A>, operator: Operator) -> Result<(
         return Ok(());
     }
     let Some(a) = values.pop() else {
-        return Err(trouble(Problem::Expression, b""));
+        return Err(trouble(Problem::Incomplete, b""));
     };
     let Some(value) = combined(operator, a, b) else {
         return Err(trouble(combining_problem(operator, b), b""));
@@ -234,24 +234,33 @@ fn settle<A: Allocator>(
     Ok(())
 }
 
+// Why a token is not a term whose value is known.
+fn term_problem(token: &Token<'_>) -> Problem {
+    match token {
+        Token::Name(_) => Problem::UnknownValue,
+        Token::Here => Problem::AddressHere,
+        Token::Local(_) | Token::Anonymous(_) => Problem::LocalAddress,
+        _ => Problem::Expression,
+    }
+}
+
+// The value of a token that is a term, if it is known.
+fn known_value<A: Allocator>(token: &Token<'_>, constants: &[Constant<A>]) -> Option<i32> {
+    match token {
+        Token::Number(n) => Some(i32::from(*n)),
+        Token::Name(name) => constant_of(constants, name),
+        _ => None,
+    }
+}
+
 // The value of a token that is a term.
 fn term_value<A: Allocator>(
-    token: &Token<'_>,
+    placed: &Placed<'_>,
     constants: &[Constant<A>],
 ) -> Result<i32, ExpandFault> {
-    match token {
-        Token::Number(n) => Ok(i32::from(*n)),
-        Token::Name(name) => match constant_of(constants, name) {
-            Some(value) => Ok(value),
-            None => Err(trouble(Problem::UnknownValue, name)),
-        },
-        Token::Here => Err(trouble(Problem::AddressHere, b"*")),
-        Token::Local(name) => Err(trouble(Problem::LocalAddress, name)),
-        Token::Anonymous(name) => Err(trouble(Problem::LocalAddress, name)),
-        Token::Text(piece) => Err(trouble(Problem::Expression, piece)),
-        Token::Strange(piece) => Err(trouble(Problem::Expression, piece)),
-        Token::Sign(c) => Err(trouble(Problem::Expression, &[*c])),
-        Token::Pair(a, b) => Err(trouble(Problem::Expression, &[*a, *b])),
+    match known_value(&placed.token, constants) {
+        Some(value) => Ok(value),
+        None => Err(trouble_at(term_problem(&placed.token), placed.text, placed.at)),
     }
 }
 
@@ -259,35 +268,35 @@ impl<A: Allocator + Copy> Calculator<A> {
     // Reads a token where a term is expected, and returns whether a term ends there.
     fn begin_term(
         &mut self,
-        token: &Token<'_>,
+        placed: &Placed<'_>,
         begins: bool,
         constants: &[Constant<A>],
     ) -> Result<bool, ExpandFault> {
-        if let Some(operator) = unary(token, begins) {
+        if let Some(operator) = unary(&placed.token, begins) {
             add(&mut self.waiting, operator)?;
             return Ok(false);
         }
-        let value = term_value(token, constants)?;
+        let value = term_value(placed, constants)?;
         add(&mut self.values, value)?;
         Ok(true)
     }
 
-    // Closes a bracket.
-    fn close(&mut self) -> Result<bool, ExpandFault> {
+    // Closes a bracket at this place.
+    fn close(&mut self, at: usize) -> Result<bool, ExpandFault> {
         settle(&mut self.values, &mut self.waiting, 1)?;
         match self.waiting.pop() {
             Some(Operator::Open) => Ok(true),
-            _ => Err(trouble(Problem::Bracket, b")")),
+            _ => Err(trouble_at(Problem::Bracket, b")", at)),
         }
     }
 
     // Reads a token after a term, and returns whether a term ends there.
-    fn after_term(&mut self, token: &Token<'_>) -> Result<bool, ExpandFault> {
-        if let Token::Sign(b')') = token {
-            return self.close();
+    fn after_term(&mut self, placed: &Placed<'_>) -> Result<bool, ExpandFault> {
+        if let Token::Sign(b')') = placed.token {
+            return self.close(placed.at);
         }
-        let Some(operator) = binary(token) else {
-            return Err(trouble(Problem::Expression, b""));
+        let Some(operator) = binary(&placed.token) else {
+            return Err(trouble_at(Problem::Expression, placed.text, placed.at));
         };
         settle(&mut self.values, &mut self.waiting, operator.level())?;
         add(&mut self.waiting, operator)?;
@@ -302,7 +311,7 @@ impl<A: Allocator + Copy> Calculator<A> {
         }
         match self.values.pop() {
             Some(value) => Ok(value),
-            None => Err(trouble(Problem::Expression, b"")),
+            None => Err(trouble(Problem::Incomplete, b"")),
         }
     }
 }
@@ -315,7 +324,7 @@ fn begins_after(token: &Token<'_>) -> bool {
 /// Returns the value of an expression whose names are all known.
 pub(crate) fn evaluate<A: Allocator + Copy>(
     alloc: A,
-    tokens: &[Token<'_>],
+    tokens: &[Placed<'_>],
     constants: &[Constant<A>],
 ) -> Result<i32, ExpandFault> {
     let mut calculator = Calculator {
@@ -324,16 +333,16 @@ pub(crate) fn evaluate<A: Allocator + Copy>(
     };
     let mut after_term = false;
     let mut begins = true;
-    for token in tokens {
+    for placed in tokens {
         after_term = if after_term {
-            calculator.after_term(token)?
+            calculator.after_term(placed)?
         } else {
-            calculator.begin_term(token, begins, constants)?
+            calculator.begin_term(placed, begins, constants)?
         };
-        begins = begins_after(token);
+        begins = begins_after(&placed.token);
     }
     if !after_term {
-        return Err(trouble(Problem::Expression, b""));
+        return Err(trouble(Problem::Incomplete, b""));
     }
     calculator.finish()
 }
