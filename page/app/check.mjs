@@ -33,14 +33,6 @@ function errorsOf(json, lines) {
   });
 }
 
-/** @returns {Problem[]} The error of a source in the larger language that cannot be expanded: `check` writes it to standard error. */
-function expansionErrorsOf(stderr, lines) {
-  const found = stderr.match(/^error: line (\d+), column (\d+): (.*)\n.*\n *\| *(\^+) (.*)$/m);
-  if (!found) return [];
-  const [line, column, width] = [Number(found[1]), Number(found[2]), found[4].length];
-  return [{kind: 'error', line, from: characters(lines[line - 1] ?? '', column - 1), width, text: found[3], fix: found[5]}];
-}
-
 /** @returns {Problem[]} The warnings that `check` writes to standard error, each as NAME:LINE: warning: TEXT. */
 function warningsOf(stderr, lines) {
   const found = [...stderr.matchAll(/^[^:\n]*:(\d+): warning: (.*)$/gm)];
@@ -86,16 +78,10 @@ export class Checker {
       if (this.#isOld) return;
       if (fault) this.#show([], faultText(fault));
       else if (status > 1) this.#show([], stderr);
-      else if (stdout === '') this.#showOf(stderr, lines);
       else this.#show([...errorsOf(stdout, lines), ...warningsOf(stderr, lines)]);
     } catch (error) {
       if (!(error instanceof Cancelled)) this.#show([], String(error.message ?? error));
     }
-  }
-
-  #showOf(stderr, lines) {
-    const problems = expansionErrorsOf(stderr, lines);
-    this.#show(problems, problems.length === 0 ? stderr : '');
   }
 
   #show(problems, failure = '') {

@@ -44,8 +44,7 @@ function errorsIn(text) {
   fs.writeFileSync(file, text, 'latin1');
   const {status, stdout, stderr} = spawnSync(a2lab, ['check', '--format', 'json', file], {encoding: 'latin1'});
   if (status > 1) throw new Error(`check ended with ${status}: ${stderr}`);
-  // (A source in the larger language that cannot be expanded has no list of errors.)
-  return status && stdout ? JSON.parse(stdout) : [];
+  return status ? JSON.parse(stdout) : [];
 }
 
 /** Returns the sources in the cases: the parts whose names end in .s. */

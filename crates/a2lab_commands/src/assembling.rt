@@ -7,7 +7,22 @@ use crate::refusal::Refusal;
 use a2_check::{Format, put_refusals, refusals_of};
 use a2_run::{AssembledText, RunFault};
 use a2_stream::Output;
+use a2_syntax::Fault;
 use std::alloc::Global;
+
+/// Reports these errors of `text`, the source `name`, as `check` does, and returns the error that ends the command.
+pub fn report_errors<'a, E: Output>(
+    alloc: Global,
+    name: Option<&str>,
+    text: &[u8],
+    errors: &[Fault],
+    complaints: &mut E,
+) -> Refusal<'a> {
+    let name = name.unwrap_or("-");
+    // If this fails, there is no place left to report it.
+    let _ = put_refusals(alloc, name, text, errors, Format::Long, complaints);
+    Refusal::Reported
+}
 
 /// Reports all errors of `text`, the source `name`, as `check` does, and returns the error that ends the command.
 pub fn report_source_errors<'a, E: Output>(
@@ -17,18 +32,7 @@ pub fn report_source_errors<'a, E: Output>(
     complaints: &mut E,
 ) -> Refusal<'a> {
     match refusals_of(alloc, text) {
-        Ok(errors) => {
-            // If this fails, there is no place left to report it.
-            let _ = put_refusals(
-                alloc,
-                name.unwrap_or("-"),
-                text,
-                errors.as_slice(),
-                Format::Long,
-                complaints,
-            );
-            Refusal::Reported
-        }
+        Ok(errors) => report_errors(alloc, name, text, errors.as_slice(), complaints),
         Err(_) => Refusal::Fault(RunFault::Memory),
     }
 }

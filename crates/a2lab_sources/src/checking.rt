@@ -2,19 +2,19 @@
 
 ghost use Rattle.std.specs.Prelude.{◌≤◌, IfOk};
 
+use crate::authors::{put_expanded_errors, put_expanded_warnings, put_unexpanded};
 use a2_arguments::Arguments;
 use a2_asm::Program;
-use a2_check::{
-    Format, ReportFault, Verdict, put_refusals, put_warnings, refusals_of, verdict_of, warnings_of,
-};
+use a2_check::{Format, ReportFault, Verdict, put_refusals, put_warnings, verdict_of, warnings_of};
 use a2_host::Shelf;
 use a2_run::{AssembledText, RunFault};
-use a2_stream::{Input, Output, put_all};
+use a2_stream::{Input, Output, WriteFault, put, put_all};
 use a2_syntax::{Fault, Source};
 use a2_text::cut;
 use a2lab_commands::options::CHECK_FORMAT;
 use a2lab_commands::{
-    CommandArgs, Expanded, Host, Reading, Refusal, reading_of, report_origins, text_of,
+    CommandArgs, Expanded, Host, Reading, Refusal, Unexpanded, errors_as_written, reading_of,
+    report_origins, text_of,
 };
 use bumpalo::Bump;
 use std::alloc::{AllocError, Allocator, Global};
@@ -38,6 +38,14 @@ struct Text<'a> {
     source: &'a [u8],
 }
 
+// Prints the name of a text that is one of several, if the format is long.
+fn put_name<W: Output>(text: Text<'_>, format: Format, output: &mut W) -> Result<(), WriteFault> {
+    if text.headed && format == Format::Long {
+        put_all(&[text.name.as_bytes(), b":\n"], output)?;
+    }
+    Ok(())
+}
+
 // Prints the errors of a text, after a line with its name if it is one of several and the format is long.
 fn put_headed<A: Allocator + Copy, W: Output>(
     alloc: A,
@@ -46,9 +54,7 @@ fn put_headed<A: Allocator + Copy, W: Output>(
     format: Format,
     output: &mut W,
 ) -> Result<(), ReportFault> {
-    if text.headed && format == Format::Long {
-        put_all(&[text.name.as_bytes(), b":\n"], output)?;
-    }
+    put_name(text, format, output)?;
     put_refusals(alloc, text.name, text.source, refusals, format, output)
 }
 
@@ -125,32 +131,81 @@ fn checked<'a>(done: Result<u8, ReportFault>) -> Result<u8, Refusal<'a>>
     }
 }
 
-// Checks the expansion of a source in the larger language, and returns the exit status. For each error it says from which line of the
-// source it comes.
-fn check_larger<'a, S, D, C, R, W: Output, E: Output>(
+// Prints why a source cannot be expanded. The exit status is 1.
+fn refuse_unexpanded<W: Output>(
+    alloc: Global,
+    text: Text<'_>,
+    why: &Unexpanded,
     format: Format,
-    file: Option<&'a str>,
-    headed: bool,
-    made: &Expanded,
-    host: &mut Host<S, D, C, R, W, E>,
-) -> Result<u8, Refusal<'a>>
+    output: &mut W,
+) -> Result<u8, ReportFault>
     ensures { IfOk result (λ status. status ≤ 5) }
 {
-    let text = Text {
-        name: file.unwrap_or("-"),
-        headed,
-        source: made.text.as_slice(),
-    };
-    let status = checked(check(
-        host.alloc,
-        text,
-        format,
-        &mut host.output,
-        &mut host.complaints,
-    ))?;
-    let refusals = refusals_of(host.alloc, made.text.as_slice())?;
-    report_origins(file, made, refusals.as_slice(), &mut host.complaints);
-    Ok(status)
+    put_name(text, format, output)?;
+    put_unexpanded(alloc, format, why, output)?;
+    Ok(1)
+}
+
+// Prints the errors of an expansion at the lines of the source; in the long format, notes after them say which lines these are. If the errors
+// of the source itself say more, those are printed.
+fn put_errors_of_larger<S, D, C, R, W: Output, E: Output>(
+    text: Text<'_>,
+    made: &Expanded,
+    errors: &[Fault],
+    format: Format,
+    host: &mut Host<S, D, C, R, W, E>,
+) -> Result<(), ReportFault> {
+    let alloc = host.alloc;
+    if let Some(own) = errors_as_written(alloc, text.source, errors)? {
+        return put_headed(alloc, text, own.as_slice(), format, &mut host.output);
+    }
+    if format != Format::Long {
+        return put_expanded_errors(alloc, format, made, errors, &mut host.output);
+    }
+    put_name(text, format, &mut host.output)?;
+    let lines = made.text.as_slice();
+    put_refusals(alloc, text.name, lines, errors, format, &mut host.output)?;
+    report_origins(made, errors, &mut host.complaints);
+    Ok(())
+}
+
+// Prints the warnings for an expansion that is accepted, at the lines of the source.
+fn warn_of_larger<A: Allocator + Copy, S, D, C, R, W, E: Output>(
+    alloc: A,
+    made: &Expanded,
+    lines: &Source<A>,
+    program: &Program<A>,
+    host: &mut Host<S, D, C, R, W, E>,
+) -> Result<(), AllocError> {
+    // If this fails, there is no place left to report it.
+    let _ = put(made.warnings.as_slice(), &mut host.complaints);
+    let texts = cut(alloc, made.text.as_slice())?;
+    let warnings = warnings_of(alloc, texts.as_slice(), lines.lines(), program)?;
+    put_expanded_warnings(host.alloc, made, warnings.as_slice(), &mut host.complaints)
+}
+
+// Checks the expansion of a source in the larger language, and returns the exit status.
+fn check_larger<S, D, C, R, W: Output, E: Output>(
+    text: Text<'_>,
+    made: &Expanded,
+    format: Format,
+    host: &mut Host<S, D, C, R, W, E>,
+) -> Result<u8, ReportFault>
+    ensures { IfOk result (λ status. status ≤ 5) }
+{
+    // The lines and the program are allocated in an arena and freed together.
+    let arena = Bump::new(host.alloc);
+    match verdict_of(&arena, made.text.as_slice())? {
+        Verdict::Accepted(lines, program) => {
+            put_headed(&arena, text, &[], format, &mut host.output)?;
+            warn_of_larger(&arena, made, &lines, &program, host)?;
+            Ok(0)
+        }
+        Verdict::Refused(errors) => {
+            put_errors_of_larger(text, made, errors.as_slice(), format, host)?;
+            Ok(1)
+        }
+    }
 }
 
 // Checks a file, or standard input, and returns the exit status. `headed` says that it is one of several.
@@ -162,29 +217,20 @@ fn check_text<'a, S: Shelf, D, C, R: Input, W: Output, E: Output>(
 ) -> Result<u8, Refusal<'a>>
     ensures { IfOk result (λ status. status ≤ 5) }
 {
-    let source = text_of(host.alloc, file, &mut host.shelf, &mut host.input)?;
-    let reading = reading_of(
-        host.alloc,
-        file,
-        source.as_slice(),
-        &mut host.shelf,
-        &mut host.complaints,
-    )?;
-    if let Reading::Larger(made) = reading {
-        return check_larger(format, file, headed, &made, host);
-    }
+    let alloc = host.alloc;
+    let source = text_of(alloc, file, &mut host.shelf, &mut host.input)?;
     let text = Text {
         name: file.unwrap_or("-"),
         headed,
         source: source.as_slice(),
     };
-    checked(check(
-        host.alloc,
-        text,
-        format,
-        &mut host.output,
-        &mut host.complaints,
-    ))
+    checked(
+        match reading_of(alloc, file, source.as_slice(), &mut host.shelf)? {
+            Reading::Larger(made) => check_larger(text, &made, format, host),
+            Reading::Failed(why) => refuse_unexpanded(alloc, text, &why, format, &mut host.output),
+            Reading::Plain => check(alloc, text, format, &mut host.output, &mut host.complaints),
+        },
+    )
 }
 
 /// Prints the errors of the files that the arguments name, or of standard input. The exit status is the greatest of those of the files:

@@ -7,7 +7,7 @@ use a2_host::Shelf;
 use a2_stream::{Input, Output, WriteFault, put, put_all};
 use a2_text::{cut, decimal};
 use a2lab_commands::options::LINES;
-use a2lab_commands::{CommandArgs, Expanded, Host, Refusal, expansion_of, text_of};
+use a2lab_commands::{CommandArgs, Expanded, Expansion, Host, Refusal, expansion_of, text_of};
 use std::alloc::Global;
 
 // Prints a line after the line of the source that it comes from. `+` is before the number if the line is in a macro.
@@ -36,6 +36,24 @@ fn put_lines<'a, W: Output>(
     Ok(())
 }
 
+// Prints an expansion and its warnings; with `placed`, each line after the line of the source that it comes from.
+fn put_expansion<'a, S, D, C, R, W: Output, E: Output>(
+    placed: bool,
+    made: &Expanded,
+    host: &mut Host<S, D, C, R, W, E>,
+) -> Result<u8, Refusal<'a>>
+    ensures { IfOk result (λ status. status ≡ 0) }
+{
+    // If this fails, there is no place left to report it.
+    let _ = put(made.warnings.as_slice(), &mut host.complaints);
+    if placed {
+        put_lines(host.alloc, made, &mut host.output)?;
+    } else {
+        put(made.text.as_slice(), &mut host.output)?;
+    }
+    Ok(0)
+}
+
 /// Prints the plain text of a source. If it cannot be expanded, the reason is reported, and the exit status is 1; it is 4 if a read or a
 /// write fails, and 5 if there is no memory.
 #[inline(never)]
@@ -47,17 +65,12 @@ pub fn expand_of<'a, S: Shelf, D, C, R: Input, W: Output, E: Output>(
 {
     let file = given.arguments.file();
     let text = text_of(host.alloc, file, &mut host.shelf, &mut host.input)?;
-    let made = expansion_of(
-        host.alloc,
-        file,
-        text.as_slice(),
-        &mut host.shelf,
-        &mut host.complaints,
-    )?;
-    if given.arguments.has(&LINES) {
-        put_lines(host.alloc, &made, &mut host.output)?;
-    } else {
-        put(made.text.as_slice(), &mut host.output)?;
+    match expansion_of(host.alloc, file, text.as_slice(), &mut host.shelf)? {
+        Expansion::Done(made) => put_expansion(given.arguments.has(&LINES), &made, host),
+        Expansion::Failed(why) => {
+            // If this fails, there is no place left to report it.
+            let _ = put(why.message.as_slice(), &mut host.complaints);
+            Err(Refusal::Reported)
+        }
     }
-    Ok(0)
 }

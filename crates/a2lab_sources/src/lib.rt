@@ -5,6 +5,7 @@
 
 // No command is inlined, so that the stack holds the values of one command, not of all of them.
 
+mod authors;
 mod checking;
 mod expanding;
 mod fmt;
