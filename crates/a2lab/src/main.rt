@@ -8,15 +8,14 @@ ghost use Rattle.a2_run.specs.declared.fault.RunFault.TheVariants.{Write as Writ
 
 mod clock;
 mod program;
-mod shown;
 
 use a2_host::{HostArgumentsFault, HostDesk, HostFiles, arguments_of};
 use a2_run::RunFault;
+use a2_shown::Shown;
 use a2_stream::{FromRead, Output, ToWrite};
 use a2lab_commands::{Host, Message, Terminals, report, report_fault};
 use clock::HostClock;
 use program::{draws, draws_session, obey, writes_at_once};
-use shown::Shown;
 use std::io::{BufWriter, IsTerminal, Write};
 use std::process::ExitCode;
 
