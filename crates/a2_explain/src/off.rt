@@ -1,7 +1,7 @@
 //! A run that left the instructions of the source.
 
 use crate::hook::{hook_at, report_hook};
-use crate::past::Past;
+use crate::past::{FARTHER, Past};
 use crate::returned::{put_after, put_return};
 use crate::stack::{Pulled, Return, Returns, returns_of};
 use crate::step::Step;
@@ -143,8 +143,11 @@ fn returns_before_end<A: Allocator + Copy>(
     if let Some(last) = returns.last {
         returns.last = Some(with_call(program, last));
     }
-    if is_unseen(returns.last) && past.look_farther()? {
-        return returns_of(past);
+    for _ in &FARTHER {
+        if !is_unseen(returns.last) || !past.look_farther()? {
+            break;
+        }
+        returns = returns_of(past)?;
     }
     Ok(returns)
 }

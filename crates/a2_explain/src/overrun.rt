@@ -1,6 +1,6 @@
 //! A program that runs on into one of its routines, whose RTS then ends it.
 
-use crate::past::Past;
+use crate::past::{Past, WIDE};
 use crate::step::Step;
 use a2_asm::{Program, Statement};
 use a2_hex::RAM_END;
@@ -161,7 +161,7 @@ pub(crate) fn report_overrun<A: Allocator + Copy, W: Output>(
     if !routines.can_be_run_into(scene.program) {
         return Ok(());
     }
-    let past = Past::of(alloc, ended)?;
+    let past = Past::of(alloc, ended, WIDE)?;
     // The last RTS pulled two bytes.
     let start = ended.machine().regs().s.wrapping_sub(2);
     match overrun_in(past.steps(), &routines, start) {

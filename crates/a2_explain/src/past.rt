@@ -5,11 +5,14 @@ use crate::step::Step;
 use a2_timed_keys::Ended;
 use std::alloc::{AllocError, Allocator};
 
-/// How many steps before the stop are examined first.
-pub(crate) const NEAR: u32 = 4_096;
+/// How many steps before a stop are examined first.
+pub(crate) const NEAR: u32 = 512;
 
-// How many are examined if these do not show what caused the stop.
-const FAR: u32 = 65_536;
+/// How many steps before a stop show a loop, or a routine into which the program ran on.
+pub(crate) const WIDE: u32 = 4_096;
+
+/// How many are examined, one number after the other, if these do not show what caused the stop.
+pub(crate) const FARTHER: [u32; 2] = [WIDE, 65_536];
 
 /// The last steps of a run, which are run again once for all questions about them.
 #[derive(Drop)]
@@ -34,34 +37,49 @@ fn last_steps<A: Allocator + Copy>(
 }
 
 impl<'e, 'a, A: Allocator + Copy> Past<'e, 'a, A> {
-    /// Runs the last 4,096 steps of a run again, or a shorter run from its start. Fails only if there is not enough memory.
-    pub(crate) fn of(alloc: A, ended: &'e Ended<'a, A>) -> Result<Past<'e, 'a, A>, AllocError> {
+    /// Runs so many last steps of a run again, or a shorter run from its start. Fails only if there is not enough memory.
+    pub(crate) fn of(
+        alloc: A,
+        ended: &'e Ended<'a, A>,
+        count: u32,
+    ) -> Result<Past<'e, 'a, A>, AllocError> {
         Ok(Past {
             alloc,
             ended,
-            steps: last_steps(alloc, ended, NEAR)?,
+            steps: last_steps(alloc, ended, count)?,
         })
     }
 }
 
 impl<'e, 'a, A: Allocator + Copy> Past<'e, 'a, A> {
-    /// Examines the last 65,536 steps. Returns whether there are more of them than before. Fails only if there is not enough memory.
+    /// Examines more steps, at last 65,536. Returns whether there are more of them than before. Fails only if there is not enough
+    /// memory.
     pub(crate) fn look_farther(&mut self) -> Result<bool, AllocError> {
-        if self.is_whole() || self.steps.len() > NEAR as usize {
+        if self.is_whole() {
             return Ok(false);
         }
-        self.steps = last_steps(self.alloc, self.ended, FAR)?;
-        Ok(true)
-    }
-
-    /// Examines more steps if none of these stored at one of the addresses. Fails only if there is not enough memory.
-    pub(crate) fn look_for_stores(&mut self, addresses: &[u16]) -> Result<(), AllocError> {
-        for address in addresses {
-            if self.last_store(*address).is_some() {
-                return Ok(());
+        let examined = self.steps.len();
+        for count in &FARTHER {
+            if *count as usize > examined {
+                self.steps = last_steps(self.alloc, self.ended, *count)?;
+                return Ok(true);
             }
         }
-        self.look_farther()?;
+        Ok(false)
+    }
+
+    // Returns whether one of the examined steps stored at one of the addresses.
+    fn stored_at(&self, addresses: &[u16]) -> bool {
+        addresses.iter().any(|it| self.last_store(*it).is_some())
+    }
+
+    /// Examines more steps until one of them stored at one of the addresses. Fails only if there is not enough memory.
+    pub(crate) fn look_for_stores(&mut self, addresses: &[u16]) -> Result<(), AllocError> {
+        for _ in &FARTHER {
+            if self.stored_at(addresses) || !self.look_farther()? {
+                break;
+            }
+        }
         Ok(())
     }
 

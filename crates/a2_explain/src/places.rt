@@ -1,6 +1,6 @@
 //! The addresses of the loop in which a run was at its end.
 
-use crate::past::{NEAR, Past};
+use crate::past::{Past, WIDE};
 use a2_asm::Statement;
 use a2_effect::Regs;
 use std::alloc::{AllocError, Allocator};
@@ -76,7 +76,7 @@ pub(crate) fn places_of<A: Allocator + Copy>(
 ) -> Result<Vec<Place, A>, AllocError> {
     let mut places = Vec::new(past.alloc());
     let mut before = None;
-    let Some(steps) = past.last(NEAR as usize) else {
+    let Some(steps) = past.last(WIDE as usize) else {
         return Ok(places);
     };
     for step in steps {

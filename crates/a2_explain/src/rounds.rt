@@ -2,7 +2,7 @@
 
 use crate::hook::{hook_at, report_hook};
 use crate::lines::put_lines;
-use crate::past::{NEAR, Past};
+use crate::past::{Past, WIDE};
 use crate::places::{Place, is_among, place_at, places_of};
 use a2_asm::Statement;
 use a2_bus::locations::KBD;
@@ -137,7 +137,7 @@ fn put_loop<A: Allocator + Copy, W: Output>(
     writer: &mut W,
 ) -> Result<(), WriteFault> {
     put(b"a2lab: the last ", writer)?;
-    put_number(u64::from(NEAR), writer)?;
+    put_number(u64::from(WIDE), writer)?;
     put(b" steps were all in ", writer)?;
     put_lines(scene, places, writer)?;
     put(b"\n", writer)?;

@@ -3,7 +3,7 @@
 use crate::circle::report_circle;
 use crate::off::{ending_of, report_off};
 use crate::overrun::report_overrun;
-use crate::past::Past;
+use crate::past::{NEAR, Past, WIDE};
 use crate::returned::put_return;
 use crate::rounds::report_round;
 use crate::stack::returns_of;
@@ -180,11 +180,10 @@ fn explain<A: Allocator + Copy, W: Output>(
         return Ok(());
     }
     put_stop(scene, ended.machine().regs().pc, cause, writer)?;
-    let mut past = Past::of(alloc, ended)?;
     if matches!(cause, Cause::Limit) {
-        return report_limit(scene, &mut past, writer);
+        return report_limit(scene, &mut Past::of(alloc, ended, WIDE)?, writer);
     }
-    report_way(scene, &mut past, writer)
+    report_way(scene, &mut Past::of(alloc, ended, NEAR)?, writer)
 }
 
 /// Writes why the run of a source stopped, in lines that begin with `a2lab: `: the cause, what is at PC, the last line that ran, and

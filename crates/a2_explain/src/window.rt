@@ -1,6 +1,6 @@
 //! Which lines moved the window or the cursor off the screen, and blocks that are off it.
 
-use crate::past::Past;
+use crate::past::{FARTHER, Past};
 use a2_bus::locations::{CH, CV, H2, V2, WNDBTM, WNDLFT, WNDTOP, WNDWDTH};
 use a2_machine::Machine;
 use a2_run::RunFault;
@@ -194,8 +194,13 @@ fn report_stores<A: Allocator + Copy, W: Output>(
     locations: &[Location],
     writer: &mut W,
 ) -> Result<(), RunFault> {
-    let is_reported = put_stores(scene, past, locations, writer)?
-        || (past.look_farther()? && put_stores(scene, past, locations, writer)?);
+    let mut is_reported = put_stores(scene, past, locations, writer)?;
+    for _ in &FARTHER {
+        if is_reported || !past.look_farther()? {
+            break;
+        }
+        is_reported = put_stores(scene, past, locations, writer)?;
+    }
     if is_reported {
         put(
             b"a2lab: a program can safely keep its own bytes below $20\n",
