@@ -44,6 +44,9 @@ class Body:
         else:
             self.begin, self.end = lines.index("«"), lines.index("»") - 1
 
+    def __str__(self):
+        return f"{self.crate} {self.name}"
+
     def path(self, top):
         return Path(top, "crates", self.crate, self.file)
 
