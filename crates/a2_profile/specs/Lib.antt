@@ -4,6 +4,7 @@ pub mod Run
 pub mod Totals
 pub mod Routines
 pub mod Walks
+pub mod Row
 pub mod Table
 pub mod RoutineTable
 pub mod Runs

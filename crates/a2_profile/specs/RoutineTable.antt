@@ -1,7 +1,6 @@
 -- What is shown of a profile by routine: a row for the program itself and for each routine that was entered, and the sums. This
 -- project's profile.
 use Rattle.std.specs.Prelude.{ℕ, ◌==◌, List, [], ◌∷◌, ◌++◌, codes, if◌then◌else◌}
-use Rattle.std.specs.List.{concat}
 use Rattle.std.specs.Fmt.{decimal}
 use Rattle.a2_text.specs.Digits.{hex_word}
 use Rattle.a2_asm.specs.Assembled.{Assembled}
@@ -9,13 +8,13 @@ use Rattle.a2_asm.specs.Values.{Names}
 use Rattle.a2_symbols.specs.Names.{name_of}
 use Rattle.a2_profile.specs.declared.walk.Totals.{Totals}
 use Rattle.a2_profile.specs.Totals.{itself, totals_at, own_steps_in, own_cycles_in}
-use Rattle.a2_profile.specs.Table.{gap, before_text, share_digits, per_mille, rows_from, sum_line}
+use Rattle.a2_profile.specs.Row.{row}
+use Rattle.a2_profile.specs.Table.{share_digits, per_mille, rows_from, sum_line}
 
--- a row of these cells
+-- a row: the cells before the routine, its address, and its name
 unfoldable pub routine_cells : List ℕ → List ℕ → List ℕ → List ℕ → List ℕ → List ℕ → List ℕ → List ℕ → List ℕ → List ℕ
-routine_cells times steps cycles share all_steps all_cycles all_share label name = concat (
-    gap 10 times ∷ times ∷ gap 12 steps ∷ steps ∷ gap 14 cycles ∷ cycles ∷ gap 8 share ∷ share ∷ gap 12 all_steps ∷ all_steps
-    ∷ gap 14 all_cycles ∷ all_cycles ∷ gap 8 all_share ∷ all_share ∷ codes "  " ∷ label ∷ before_text name ∷ name ∷ codes "\n" ∷ [])
+routine_cells times steps cycles share all_steps all_cycles all_share label name =
+    row ((10, times) ∷ (12, steps) ∷ (14, cycles) ∷ (8, share) ∷ (12, all_steps) ∷ (14, all_cycles) ∷ (8, all_share) ∷ []) (label ∷ name ∷ [])
 
 abbrev pub routine_heading : List ℕ
 routine_heading =

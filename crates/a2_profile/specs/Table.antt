@@ -12,23 +12,15 @@ use Rattle.a2_asm.specs.Programs.{instr_at}
 use Rattle.a2_symbols.specs.Statements.{instruction_on}
 use Rattle.a2_profile.specs.declared.profile.Count.{Count}
 use Rattle.a2_profile.specs.Counts.{count_at, steps_in, cycles_in}
+use Rattle.a2_profile.specs.Row.{row}
 
--- the blanks before a text that ends at a column, at most 14
-abbrev pub gap : ℕ → List ℕ → List ℕ
-gap width text = take (width - length text) (codes "              ")
-
--- two blanks, if a text follows them
-abbrev pub before_text : List ℕ → List ℕ
-before_text text = if length text == 0 then [] else codes "  "
-
--- a row of these cells
-unfoldable pub row : List ℕ → List ℕ → List ℕ → List ℕ → List ℕ → List ℕ → List ℕ → List ℕ
-row times cycles share taken straight label text = concat (
-    gap 10 times ∷ times ∷ gap 14 cycles ∷ cycles ∷ gap 8 share ∷ share ∷ gap 11 taken ∷ taken ∷ gap 11 straight ∷ straight
-    ∷ gap 7 label ∷ label ∷ before_text text ∷ text ∷ codes "\n" ∷ [])
+-- a row: the cells before the line, its number or address, and its text
+unfoldable pub line_cells : List ℕ → List ℕ → List ℕ → List ℕ → List ℕ → List ℕ → List ℕ → List ℕ
+line_cells times cycles share taken straight label text =
+    row ((10, times) ∷ (14, cycles) ∷ (8, share) ∷ (11, taken) ∷ (11, straight) ∷ (7, label) ∷ []) (text ∷ [])
 
 abbrev pub heading : List ℕ
-heading = row (codes "TIMES") (codes "CYCLES") (codes "SHARE") (codes "TAKEN") (codes "NOT") (codes "LINE") (codes "SOURCE")
+heading = line_cells (codes "TIMES") (codes "CYCLES") (codes "SHARE") (codes "TAKEN") (codes "NOT") (codes "LINE") (codes "SOURCE")
 
 -- how many thousandths of all cycles, rounded down
 abbrev pub per_mille : ℕ → ℕ → ℕ
@@ -45,7 +37,7 @@ branch_digits is_branch n = if is_branch then decimal n else []
 -- the row of a count: its steps, its cycles, and their share of all cycles; for a branch how often it was taken, and how often not
 abbrev pub count_row : ℕ → Bool → Count → List ℕ → List ℕ → List ℕ
 count_row all is_branch count label text =
-    row (decimal count.times) (decimal count.cycles) (share_digits (per_mille count.cycles all)) (branch_digits is_branch count.taken)
+    line_cells (decimal count.times) (decimal count.cycles) (share_digits (per_mille count.cycles all)) (branch_digits is_branch count.taken)
     (branch_digits is_branch (count.times - count.taken)) label text
 
 abbrev pub is_relative : Mode → Bool
@@ -57,7 +49,7 @@ is_branch s = elim s.instr [ None ↦ false | Some instr ↦ is_relative instr.m
 
 -- the row of a line, with a count if it has an instruction
 abbrev pub line_row : List Count → Option Statement → ℕ → List ℕ → List ℕ
-line_row counts None n text = row [] [] [] [] [] (decimal n) text
+line_row counts None n text = line_cells [] [] [] [] [] (decimal n) text
 line_row counts (Some s) n text = count_row (cycles_in counts) (is_branch s) (count_at counts s.addr) (decimal n) text
 
 -- the rows of lines, from the line with a number on
@@ -92,7 +84,7 @@ abbrev pub line_of : List (List ℕ) → Statement → List ℕ
 line_of texts s = unwrap_or (slice_get texts (s.line - 1)) []
 
 abbrev pub never_row : List Count → List (List ℕ) → Statement → List ℕ
-never_row counts texts s = if is_never_done counts s then row (codes "NEVER") [] [] [] [] (decimal s.line) (line_of texts s) else []
+never_row counts texts s = if is_never_done counts s then line_cells (codes "NEVER") [] [] [] [] (decimal s.line) (line_of texts s) else []
 
 -- the lines that were never executed
 abbrev pub never_rows : List Count → List (List ℕ) → List Statement → List ℕ

@@ -11,6 +11,7 @@ mod profile;
 mod routine_json;
 mod routine_table;
 mod routines;
+mod row;
 mod run;
 mod runs;
 mod source;

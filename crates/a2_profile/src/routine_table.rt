@@ -5,58 +5,17 @@ ghost use Rattle.a2_profile.specs.RoutineTable as table;
 ghost use Rattle.a2_stream.specs.Stream.{SendsOrBreaks};
 
 use crate::addresses::{ByAddress, put_each};
-use crate::table::{before_text, gap, per_mille, put_sum_line, share_digits};
+use crate::row::{Cell, put_row};
+use crate::table::{per_mille, put_sum_line, share_digits};
 use crate::{RoutineProfile, Totals};
 use a2_asm::Program;
-use a2_stream::{Output, WriteFault, put_all};
+use a2_stream::{Output, WriteFault};
 use a2_symbols::name_of;
 use a2_text::{decimal, hex_word};
 use std::alloc::Allocator;
 
-// Writes a row of these cells.
-#[tactic(auto, unfolding(crate::specs::RoutineTable::routine_cells))]
-fn put_cells<'a, W: Output>(
-    times: &'a [u8],
-    steps: &'a [u8],
-    cycles: &'a [u8],
-    share: &'a [u8],
-    all_steps: &'a [u8],
-    all_cycles: &'a [u8],
-    all_share: &'a [u8],
-    label: &'a [u8],
-    name: &'a [u8],
-    writer: &mut W,
-) -> Result<(), WriteFault>
-    ensures { SendsOrBreaks (W.taker writer.old) (W.taker writer.new) result
-        (table.routine_cells times.now steps.now cycles.now share.now all_steps.now all_cycles.now all_share.now label.now name.now) }
-{
-    put_all(
-        &[
-            gap(10, times),
-            times,
-            gap(12, steps),
-            steps,
-            gap(14, cycles),
-            cycles,
-            gap(8, share),
-            share,
-            gap(12, all_steps),
-            all_steps,
-            gap(14, all_cycles),
-            all_cycles,
-            gap(8, all_share),
-            all_share,
-            b"  ",
-            label,
-            before_text(name),
-            name,
-            b"\n",
-        ],
-        writer,
-    )
-}
-
 // Writes the row of totals.
+#[tactic(auto, unfolding(crate::specs::RoutineTable::routine_cells))]
 fn put_totals<W: Output>(
     all: u64,
     times: &[u8],
@@ -76,16 +35,17 @@ fn put_totals<W: Output>(
     let all_steps = decimal(totals.all_steps);
     let all_cycles = decimal(totals.all_cycles);
     let all_share = share_digits(per_mille(totals.all_cycles, all));
-    put_cells(
-        times,
-        steps.as_slice(),
-        cycles.as_slice(),
-        share.as_slice(),
-        all_steps.as_slice(),
-        all_cycles.as_slice(),
-        all_share.as_slice(),
-        label,
-        name,
+    put_row(
+        &[
+            Cell::of(10, times),
+            Cell::of(12, steps.as_slice()),
+            Cell::of(14, cycles.as_slice()),
+            Cell::of(8, share.as_slice()),
+            Cell::of(12, all_steps.as_slice()),
+            Cell::of(14, all_cycles.as_slice()),
+            Cell::of(8, all_share.as_slice()),
+        ],
+        &[label, name],
         writer,
     )
 }
@@ -142,19 +102,21 @@ impl<'a, A: Allocator + Copy, B: Allocator + Copy> ByAddress for RoutineRows<'a,
 }
 
 // Writes the heading.
+#[tactic(auto, unfolding(crate::specs::RoutineTable::routine_cells))]
 fn put_heading<W: Output>(writer: &mut W) -> Result<(), WriteFault>
     ensures { SendsOrBreaks (W.taker writer.old) (W.taker writer.new) result table.routine_heading }
 {
-    put_cells(
-        b"TIMES",
-        b"STEPS",
-        b"CYCLES",
-        b"SHARE",
-        b"ALL STEPS",
-        b"ALL CYCLES",
-        b"SHARE",
-        b"ROUTINE",
-        b"",
+    put_row(
+        &[
+            Cell::of(10, b"TIMES"),
+            Cell::of(12, b"STEPS"),
+            Cell::of(14, b"CYCLES"),
+            Cell::of(8, b"SHARE"),
+            Cell::of(12, b"ALL STEPS"),
+            Cell::of(14, b"ALL CYCLES"),
+            Cell::of(8, b"SHARE"),
+        ],
+        &[b"ROUTINE", b""],
         writer,
     )
 }

@@ -1,11 +1,12 @@
 //! The table of a profile.
 
-ghost use Rattle.std.specs.Prelude.{◌≡◌, ◌+◌, ◌-◌, ◌≤◌, map};
+ghost use Rattle.std.specs.Prelude.{◌≡◌, ◌+◌, ◌-◌, ◌≤◌, [], map};
 ghost use Rattle.a2_stream.specs.Stream.{SendsOrBreaks};
 ghost use Rattle.a2_profile.specs.Table as table;
 ghost use Rattle.std.specs.Fmt.{decimal as decimal_of};
 
 use crate::addresses::{ByAddress, put_each};
+use crate::row::{Cell, put_row};
 use crate::{Count, Profile};
 use a2_asm::{Program, Statement};
 use a2_opcode::Mode;
@@ -15,62 +16,33 @@ use a2_text::{append, decimal, hex_word};
 use arrayvec::ArrayVec;
 use std::alloc::Allocator;
 
-// The widest gap between two cells.
-const BLANKS: &[u8] = b"              ";
-
 // The digits of a number, or nothing.
 type Digits = ArrayVec<u8, 20>;
 
 // The digits of a share.
 type Share = ArrayVec<u8, 42>;
 
-// The blanks before a text that ends at a column.
-pub(crate) fn gap(width: usize, text: &[u8]) -> &[u8]
-    ensures { result.now ≡ table.gap width text.now }
-{
-    &BLANKS[..width.saturating_sub(text.len()).min(14)]
-}
-
-// Returns what is between a label and its text.
-pub(crate) fn before_text(text: &[u8]) -> &[u8]
-    ensures { result.now ≡ table.before_text text.now }
-{
-    if text.len() == 0 { b"" } else { b"  " }
-}
-
-// Writes a row of these cells.
-#[tactic(auto, unfolding(crate::specs::Table::row))]
-fn put_row<'a, W: Output>(
-    times: &'a [u8],
-    cycles: &'a [u8],
-    share: &'a [u8],
-    taken: &'a [u8],
-    straight: &'a [u8],
+// Writes a row that has no count: a word, a label, and a text.
+#[tactic(auto, unfolding(crate::specs::Table::line_cells))]
+fn put_uncounted<'a, W: Output>(
+    word: &'a [u8],
     label: &'a [u8],
     text: &'a [u8],
     writer: &mut W,
 ) -> Result<(), WriteFault>
     ensures { SendsOrBreaks (W.taker writer.old) (W.taker writer.new) result
-        (table.row times.now cycles.now share.now taken.now straight.now label.now text.now) }
+        (table.line_cells word.now [] [] [] [] label.now text.now) }
 {
-    put_all(
+    put_row(
         &[
-            gap(10, times),
-            times,
-            gap(14, cycles),
-            cycles,
-            gap(8, share),
-            share,
-            gap(11, taken),
-            taken,
-            gap(11, straight),
-            straight,
-            gap(7, label),
-            label,
-            before_text(text),
-            text,
-            b"\n",
+            Cell::of(10, word),
+            Cell::of(14, b""),
+            Cell::of(8, b""),
+            Cell::of(11, b""),
+            Cell::of(11, b""),
+            Cell::of(7, label),
         ],
+        &[text],
         writer,
     )
 }
@@ -111,6 +83,7 @@ fn branch_digits(is_branch: bool, number: u64) -> Digits
 }
 
 // Writes the row of a count.
+#[tactic(auto, unfolding(crate::specs::Table::line_cells))]
 fn put_count<W: Output>(
     all: u64,
     is_branch: bool,
@@ -129,13 +102,15 @@ fn put_count<W: Output>(
     let taken = branch_digits(is_branch, count.taken);
     let straight = branch_digits(is_branch, count.times.saturating_sub(count.taken));
     put_row(
-        times.as_slice(),
-        cycles.as_slice(),
-        share.as_slice(),
-        taken.as_slice(),
-        straight.as_slice(),
-        label,
-        text,
+        &[
+            Cell::of(10, times.as_slice()),
+            Cell::of(14, cycles.as_slice()),
+            Cell::of(8, share.as_slice()),
+            Cell::of(11, taken.as_slice()),
+            Cell::of(11, straight.as_slice()),
+            Cell::of(7, label),
+        ],
+        &[text],
         writer,
     )
 }
@@ -171,7 +146,7 @@ fn put_line<A: Allocator + Copy, W: Output>(
             text,
             writer,
         ),
-        None => put_row(b"", b"", b"", b"", b"", label.as_slice(), text, writer),
+        None => put_uncounted(b"", label.as_slice(), text, writer),
     }
 }
 
@@ -263,7 +238,7 @@ fn put_never<A: Allocator + Copy, W: Output>(
     if is_never_done(profile, statement) {
         let label = decimal(u64::from(statement.line));
         let text = line_of(texts, statement);
-        put_row(b"NEVER", b"", b"", b"", b"", label.as_slice(), text, writer)
+        put_uncounted(b"NEVER", label.as_slice(), text, writer)
     } else {
         Ok(())
     }
@@ -310,11 +285,21 @@ pub(crate) fn put_sum_line<W: Output>(
 }
 
 // Writes the heading.
+#[tactic(auto, unfolding(crate::specs::Table::line_cells))]
 fn put_heading<W: Output>(writer: &mut W) -> Result<(), WriteFault>
     ensures { SendsOrBreaks (W.taker writer.old) (W.taker writer.new) result table.heading }
 {
     put_row(
-        b"TIMES", b"CYCLES", b"SHARE", b"TAKEN", b"NOT", b"LINE", b"SOURCE", writer,
+        &[
+            Cell::of(10, b"TIMES"),
+            Cell::of(14, b"CYCLES"),
+            Cell::of(8, b"SHARE"),
+            Cell::of(11, b"TAKEN"),
+            Cell::of(11, b"NOT"),
+            Cell::of(7, b"LINE"),
+        ],
+        &[b"SOURCE"],
+        writer,
     )
 }
 
