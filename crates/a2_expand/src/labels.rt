@@ -146,11 +146,13 @@ fn scope_name<A: Allocator>(scopes: &[Scope<A>], scope: usize) -> &[u8] {
 }
 
 impl<'s, A: Allocator + Copy> Names<'s, A> {
-    // Returns the number of the first spelling that the same local name in a scope of the same name has not got.
-    fn first_number(&self, scope: &[u8], label: &[u8]) -> u32 {
+    // Returns the number of the first spelling that the same local name has not got in scopes whose names have the same front. Longer names
+    // of scopes are cut to `room` bytes, so their spellings would be the same.
+    fn first_number(&self, scope: &[u8], room: usize, label: &[u8]) -> u32 {
         let mut number = 1;
         for one in self.made.iter() {
-            if one.local.as_slice() == label && scope_name(self.scopes, one.scope) == scope {
+            let other = scope_name(self.scopes, one.scope);
+            if one.local.as_slice() == label && front(other, room) == front(scope, room) {
                 number = one.number.saturating_add(1);
             }
         }
@@ -180,7 +182,10 @@ impl<'s, A: Allocator + Copy> Names<'s, A> {
     fn fresh_local(&self, scope: usize, label: &[u8]) -> Result<(Vec<u8, A>, u32), ExpandFault> {
         let from = scope_name(self.scopes, scope);
         let local = label.strip_prefix(b".").unwrap_or(label);
-        self.fresh(from, local, self.first_number(from, label))
+        let room = MOST_NAME_BYTES
+            .saturating_sub(self.mark.len())
+            .saturating_sub(local.len().min(MOST_LOCAL_BYTES));
+        self.fresh(from, local, self.first_number(from, room, label))
     }
 
     // Gives a local label of a scope a name.

@@ -42,7 +42,7 @@ fn expression_message(problem: Problem) -> &'static [u8] {
 // Returns what is wrong with labels, blocks, macros and files.
 fn block_message(problem: Problem) -> &'static [u8] {
     match problem {
-        Problem::UnknownLocal => b"there is no `@` here",
+        Problem::UnknownLocal => b"`@` is not defined here",
         Problem::LocalTwice => b"`@` is defined twice below the same label",
         Problem::NoAnonymous => b"there is no anonymous label for `@`",
         Problem::NoFreeName => b"there is no free name for `@`",
@@ -62,7 +62,7 @@ fn block_message(problem: Problem) -> &'static [u8] {
         Problem::OutsideFolder => b"the file `@` is outside the folder of the source",
         Problem::NeedsFile => b"the file `@` cannot be read",
         Problem::Circle => b"the file @ includes itself",
-        Problem::Assertion => b"this does not hold: @",
+        Problem::Assertion => b"the ASSERT failed: @",
         Problem::Asked => b"@",
         Problem::InTable => b"this line is not allowed in ENUM or STRUCT",
         _ => b"",
@@ -81,7 +81,7 @@ fn size_message(problem: Problem) -> &'static [u8] {
         Problem::ManySteps => b"the expansion reads more than # lines",
         Problem::ManyFiles => b"the source includes more than # files",
         Problem::Remains => b"a line of the expansion is not in the plain language",
-        _ => b"there is no memory",
+        _ => b"out of memory",
     }
 }
 
@@ -109,9 +109,8 @@ fn expression_fix(problem: Problem) -> &'static [u8] {
         Problem::Incomplete => b"write a number or a name at its end",
         Problem::Bracket => b"write ( and ) in pairs",
         Problem::UnknownValue =>
-            b"define it above with EQU and a number; an address can only be added or subtracted",
-        Problem::AddressHere | Problem::LocalAddress =>
-            b"an address can only be added or subtracted",
+            b"define it above with EQU and a number; use only + and - with an address",
+        Problem::AddressHere | Problem::LocalAddress => b"use only + and - with an address",
         Problem::DivisionByZero => b"divide by another number",
         Problem::Overflow => b"use smaller numbers",
         Problem::Range => b"write a value from -32768 to 65535, or a byte from -128 to 255",
@@ -142,7 +141,7 @@ fn block_fix(problem: Problem) -> &'static [u8] {
         Problem::NestedMacro => b"define it outside",
         Problem::ManyArguments => b"remove it, or add a parameter to the macro",
         Problem::FewArguments => b"write an argument for it, or give it a default as in to=$300",
-        Problem::Depth => b"end the recursion with IF",
+        Problem::Depth => b"use IF to stop a macro that calls itself",
         Problem::FileName => b"write the name in quotes, as in INCLUDE \"io.s\"",
         Problem::OutsideFolder => b"copy the file into the folder",
         Problem::NeedsFile => b"check its name and its permissions",
@@ -162,9 +161,10 @@ fn size_fix(problem: Problem) -> &'static [u8] {
         Problem::GrownLine =>
             b"pass on a shorter text; a macro that calls itself may not pass a parameter on twice",
         Problem::ManyFiles => b"join some of them",
-        Problem::ManySteps => b"repeat less, or end the recursion with IF",
+        Problem::ManySteps => b"repeat less, or use IF to stop a macro that calls itself",
         Problem::Remains => b"write the line in another way",
-        Problem::Assertion | Problem::Asked => b"the source demands it here",
+        Problem::Assertion => b"correct the source, or the ASSERT",
+        Problem::Asked => b"the source itself reports this error, with ERROR",
         _ => b"free some memory",
     }
 }
