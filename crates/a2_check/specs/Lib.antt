@@ -1,3 +1,4 @@
 pub mod Unread
 pub mod Refusals
 pub mod Warnings
+pub mod Objects

@@ -110,8 +110,8 @@ fn is_certain<A: Allocator>(read: &Read<'_, A>, fault: Fault) -> bool {
     }
 }
 
-/// Returns the syntax errors of a source, and then the errors of its other lines that no fix of these can change. `source` has an empty line
-/// for each line with a syntax error.
+/// Returns the syntax errors of a source, and then the errors of its other lines that no fix of these can change. `source` has an empty
+/// line for each line with a syntax error.
 pub(crate) fn with_others<A: Allocator + Copy>(
     alloc: A,
     texts: &[&[u8]],

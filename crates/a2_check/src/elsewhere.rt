@@ -51,15 +51,15 @@ static DIRECTIVES: [(&[u8], &[u8]); 15] = [
     ),
     (
         b".INCLUDE INCLUDE !SOURCE !SRC PUT ICL .IN CHN .INCBIN INCBIN !BINARY .IMPORT .EXPORT USE",
-        b"paste the lines of that file here; a program is one file",
+        b"paste the lines of that file here, or write INCLUDE and the name in quotes, as in  INCLUDE \"io.s\"",
     ),
     (
         b".MACRO MAC !MACRO .MA .MAC MACRO .ENDMACRO .EM <<< >>> .REPT REPEAT",
-        b"use a subroutine, or repeat the lines; there are no macros",
+        b"use a subroutine, or MACRO and REPEAT, which larger-language.md in the manual explains",
     ),
     (
         b".IF IF !IF DO .DO .IFDEF IFDEF ELSE .ELSE FIN .FIN ENDIF .ENDIF .FI .EL",
-        b"keep only the lines you need; there is no conditional assembly",
+        b"keep only the lines you need, or use IF, which larger-language.md in the manual explains",
     ),
     (
         b".SEGMENT .CODE .DATA .BSS .ZEROPAGE .PROC .ENDPROC .SCOPE .ENDSCOPE SEG SUBROUTINE !ZONE .( .)",

@@ -15,6 +15,7 @@ mod line;
 mod message;
 mod mistake;
 mod names;
+mod objects;
 mod operand;
 mod probe;
 mod reports;

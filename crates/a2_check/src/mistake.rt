@@ -150,7 +150,7 @@ impl Mistake {
             Mistake::CarriageReturns =>
                 b"the lines end with carriage returns only, so they are read as one line",
             Mistake::CurlyQuote => b"curly quotes are not allowed",
-            Mistake::HighByte => b"this byte is not ASCII",
+            Mistake::HighByte => b"this character is not ASCII",
             Mistake::Comment => b"`@` does not begin a comment",
             Mistake::TrailingWords => b"unexpected `@`",
             Mistake::LineNumber => b"`@` looks like a line number, but lines are not numbered",
@@ -159,7 +159,7 @@ impl Mistake {
             Mistake::OperationInFirstColumn | Mistake::OtherInFirstColumn(_) =>
                 b"`@` is in column 1, which is for labels",
             Mistake::Colon => b"`@` must not end with a colon",
-            Mistake::LocalLabel => b"`@` is not a valid name: there are no local labels",
+            Mistake::LocalLabel => b"`@` is not a valid name; a local label begins with a dot",
             Mistake::LongName => b"the name has more than 32 characters",
             Mistake::RegisterName | Mistake::Accumulator => b"`@` is the accumulator, not a name",
             Mistake::BadName => b"`@` is not a valid name",
@@ -198,7 +198,7 @@ impl Mistake {
             Mistake::NoComma => b"a comma is missing before `@`",
             Mistake::TwoOperations => b"a line has only one operation",
             Mistake::SecondOperand => b"`@` takes only one operand",
-            Mistake::Missing => b"an expression is missing",
+            Mistake::Missing => b"a value is missing",
             Mistake::Strange => b"`@` is not allowed here",
             Mistake::Unclear => b"this is not a valid line",
         }
@@ -234,7 +234,7 @@ impl Mistake {
             Mistake::OtherInFirstColumn(_) | Mistake::Other(_) => b"@~",
             Mistake::Colon | Mistake::Forced => b"write @",
             Mistake::NearMnemonic(_) => b"did you mean @?",
-            Mistake::LocalLabel => b"use a name that no other label has, such as L_@",
+            Mistake::LocalLabel => b"write .@, or a name that no other label has, such as L_@",
             Mistake::LongName => b"use a name of at most 32 characters",
             Mistake::RegisterName | Mistake::Accumulator => b"use another name, such as ACC",
             Mistake::BadName => b"a name begins with a letter or _, then has letters, digits and _",

@@ -4,11 +4,12 @@ use crate::beside::{with_others, without_unread};
 use crate::checked::{Checked, line_at};
 use crate::forms::put_forms;
 use crate::message::{FilledSentence, Message, shown};
+use crate::objects::object_text;
 use crate::probe::with_values;
 use a2_asm::refused;
 use a2_stream::{Output, WriteFault, put};
 use a2_syntax::{Fault, Line, parse};
-use a2_text::{cut, decimal, json_escape};
+use a2_text::{cut, decimal};
 use std::alloc::{AllocError, Allocator};
 use thiserror::Error;
 
@@ -50,28 +51,30 @@ impl From<WriteFault> for ReportFault {
     }
 }
 
-// A source and its name.
+// A source, its name, and the errors of it to write.
 #[derive(Clone, Copy)]
-struct Named<'a> {
+struct Errors<'a> {
     name: &'a str,
     source: &'a [u8],
+    refusals: &'a [Fault],
+    format: Format,
 }
 
 // Returns the code of an error, as users see it.
-fn code(fault: Fault) -> &'static [u8] {
+fn code(fault: Fault) -> &'static str {
     match fault {
-        Fault::TooLarge(_) => b"E1",
-        Fault::Syntax(_) => b"E2",
-        Fault::TooManyNames(_) => b"E3",
-        Fault::Duplicate(_) => b"E4",
-        Fault::Unknown(_) => b"E5",
-        Fault::Forward(_) => b"E6",
-        Fault::NoMode(_) => b"E7",
-        Fault::Range(_) => b"E8",
-        Fault::Branch(_) => b"E9",
-        Fault::Outside(_) => b"E10",
-        Fault::Overlap(_) => b"E11",
-        Fault::NoCode | Fault::Memory => b"E12",
+        Fault::TooLarge(_) => "E1",
+        Fault::Syntax(_) => "E2",
+        Fault::TooManyNames(_) => "E3",
+        Fault::Duplicate(_) => "E4",
+        Fault::Unknown(_) => "E5",
+        Fault::Forward(_) => "E6",
+        Fault::NoMode(_) => "E7",
+        Fault::Range(_) => "E8",
+        Fault::Branch(_) => "E9",
+        Fault::Outside(_) => "E10",
+        Fault::Overlap(_) => "E11",
+        Fault::NoCode | Fault::Memory => "E12",
     }
 }
 
@@ -88,15 +91,10 @@ fn put_times<W: Output>(byte: u8, count: usize, writer: &mut W) -> Result<(), Wr
     Ok(())
 }
 
-// Writes bytes as shown characters, escaped if they are in a JSON string.
-fn put_shown<W: Output>(text: &[u8], in_json: bool, writer: &mut W) -> Result<(), WriteFault> {
+// Writes bytes as shown characters.
+fn put_shown<W: Output>(text: &[u8], writer: &mut W) -> Result<(), WriteFault> {
     for c in text {
-        let c = shown(*c);
-        if in_json {
-            put(json_escape(c).as_slice(), writer)?;
-        } else {
-            put(&[c], writer)?;
-        }
+        put(&[shown(*c)], writer)?;
     }
     Ok(())
 }
@@ -105,25 +103,23 @@ fn put_shown<W: Output>(text: &[u8], in_json: bool, writer: &mut W) -> Result<()
 fn put_marked<W: Output>(
     c: u8,
     filled: FilledSentence<'_>,
-    in_json: bool,
     writer: &mut W,
 ) -> Result<(), WriteFault> {
     match c {
-        b'@' => put_shown(filled.first, in_json, writer),
-        b'~' => put_shown(filled.second, in_json, writer),
+        b'@' => put_shown(filled.first, writer),
+        b'~' => put_shown(filled.second, writer),
         b'#' => put_number(usize::from(filled.number), writer),
-        _ => put_shown(&[c], in_json, writer),
+        _ => put_shown(&[c], writer),
     }
 }
 
-// Writes a sentence with its placeholders replaced.
-fn put_message<W: Output>(
+/// Writes a sentence with its placeholders replaced.
+pub(crate) fn put_message<W: Output>(
     filled: FilledSentence<'_>,
-    in_json: bool,
     writer: &mut W,
 ) -> Result<(), WriteFault> {
     for c in filled.sentence {
-        put_marked(*c, filled, in_json, writer)?;
+        put_marked(*c, filled, writer)?;
     }
     match filled.forms {
         Some(mnemonic) => put_forms(mnemonic, writer),
@@ -131,73 +127,64 @@ fn put_message<W: Output>(
     }
 }
 
-// Writes the name of a source. Bytes above ASCII are written unchanged, in JSON too: file names are in the host's encoding.
-fn put_name<W: Output>(name: &[u8], in_json: bool, writer: &mut W) -> Result<(), WriteFault> {
-    for c in name {
-        if in_json && *c < 0x7F {
-            put(json_escape(*c).as_slice(), writer)?;
+/// An error with all that its message needs.
+#[derive(Clone, Copy)]
+pub(crate) struct Report<'a> {
+    /// The name of the source.
+    pub name: &'a str,
+    /// The line with the error, as written.
+    pub text: &'a [u8],
+    /// The number of that line, or 0 if the error is not in a line.
+    pub line: u16,
+    pub code: &'static str,
+    pub message: Message<'a>,
+}
+
+impl<'a> Report<'a> {
+    /// Returns the column of the place, counted from 1, or 0 if the error is not in a line.
+    pub(crate) fn column(self) -> usize {
+        if self.line == 0 {
+            0
         } else {
-            put(&[*c], writer)?;
+            self.message.at.saturating_add(1)
         }
     }
-    Ok(())
+
+    /// Returns how many characters are marked, at least 1.
+    pub(crate) fn width(self) -> usize {
+        self.message.width.max(1)
+    }
 }
 
-// An error with all that its message needs.
-#[derive(Clone, Copy)]
-struct Report<'a> {
-    // The name of the source.
-    name: &'a str,
-    // The line with the error, as written.
-    text: &'a [u8],
-    // The number of that line, or 0 if the error is not in a line.
-    line: u16,
-    code: &'static [u8],
-    message: Message<'a>,
-    // Whether the texts are in JSON strings.
-    in_json: bool,
-}
-
-// Returns the template of a report. A capital letter stands for a part, as `put_part` writes it; any other byte stands for
-// itself. A line that is too long is not shown.
+// Returns the template of a report in a format of lines. A capital letter stands for a part, as `put_part` writes it; any other
+// byte stands for itself. A line that is too long is not shown.
 fn form_of(report: Report<'_>, format: Format) -> &'static [u8] {
     match format {
         Format::Long if report.line == 0 => b"error[E]: T\n     = M\n",
         Format::Long if report.text.len() > 255 => { b"error[E]: line L, column C: T\n     = M\n" }
         Format::Long => b"error[E]: line L, column C: T\nIL | S\n     | PU M\n",
-        Format::Short if report.line == 0 => b"N: error: E: T; M\n",
-        Format::Short => b"N:L:C: error: E: T; M\n",
-        Format::Json => {
-            b"{\"file\":\"N\",\"line\":L,\"column\":C,\"width\":W,\"code\":\"E\",\"text\":\"T\",\"fix\":\"M\"}"
-        }
+        _ if report.line == 0 => b"N: error: E: T; M\n",
+        _ => b"N:L:C: error: E: T; M\n",
     }
 }
 
 // Writes one part of a report.
 fn put_part<W: Output>(part: u8, report: Report<'_>, writer: &mut W) -> Result<(), WriteFault> {
-    let Report {
-        line,
-        message,
-        in_json,
-        ..
-    } = report;
-    let width = message.width.max(1);
+    let Report { line, message, .. } = report;
     match part {
-        b'N' => put_name(report.name.as_bytes(), in_json, writer),
-        b'E' => put(report.code, writer),
+        b'N' => put(report.name.as_bytes(), writer),
+        b'E' => put(report.code.as_bytes(), writer),
         b'L' => put_number(usize::from(line), writer),
-        b'C' if line == 0 => put_number(0, writer),
-        b'C' => put_number(message.at.saturating_add(1), writer),
-        b'W' => put_number(width, writer),
-        b'T' => put_message(message.problem(), in_json, writer),
-        b'M' => put_message(message.fix_sentence(), in_json, writer),
-        b'S' => put_shown(report.text, false, writer),
+        b'C' => put_number(report.column(), writer),
+        b'T' => put_message(message.problem(), writer),
+        b'M' => put_message(message.fix_sentence(), writer),
+        b'S' => put_shown(report.text, writer),
         b'I' => {
             let digits = decimal(u64::from(line)).len();
             put_times(b' ', 4usize.saturating_sub(digits), writer)
         }
         b'P' => put_times(b' ', message.at, writer),
-        b'U' => put_times(b'^', width, writer),
+        b'U' => put_times(b'^', report.width(), writer),
         _ => put(&[part], writer),
     }
 }
@@ -233,28 +220,32 @@ fn put_count<W: Output>(count: usize, writer: &mut W) -> Result<(), WriteFault> 
     )
 }
 
-// Writes the message for one error of a source. `front` is written before it in a JSON array.
-fn put_refusal<A: Allocator + Copy, W: Output>(
+// Returns an error of a source with all that its message needs.
+fn report_of<'a, A: Allocator + Copy>(
     alloc: A,
-    checked: &Checked<'_, A>,
+    checked: &'a Checked<'a, A>,
     fault: Fault,
-    front: &[u8],
-    format: Format,
-    writer: &mut W,
-) -> Result<(), ReportFault> {
+) -> Result<Report<'a>, AllocError> {
     let line = fault.line();
-    let report = Report {
+    Ok(Report {
         name: checked.name,
         text: line_at(checked.texts, line),
         line,
         code: code(fault),
         message: checked.message(alloc, fault)?,
-        in_json: format == Format::Json,
-    };
-    if report.in_json {
-        put(front, writer)?;
-    }
-    Ok(put_report(report, format, writer)?)
+    })
+}
+
+// Writes an error as an object of a JSON array, after `front`.
+fn put_object<A: Allocator + Copy, W: Output>(
+    alloc: A,
+    report: Report<'_>,
+    front: &[u8],
+    writer: &mut W,
+) -> Result<(), ReportFault> {
+    let text = object_text(alloc, report)?;
+    put(front, writer)?;
+    Ok(put(text.as_slice(), writer)?)
 }
 
 // Writes the end of the output, after `count` errors.
@@ -280,7 +271,12 @@ fn put_each<A: Allocator + Copy, W: Output>(
     };
     let mut front = b"[".as_slice();
     for fault in &refusals[..most] {
-        put_refusal(alloc, checked, *fault, front, format, writer)?;
+        let report = report_of(alloc, checked, *fault)?;
+        if format == Format::Json {
+            put_object(alloc, report, front, writer)?;
+        } else {
+            put_report(report, format, writer)?;
+        }
         front = b",\n ";
     }
     Ok(put_end(format, refusals.len(), writer)?)
@@ -290,54 +286,46 @@ fn put_each<A: Allocator + Copy, W: Output>(
 // in place of those that are not in the grammar.
 fn put_of_lines<'a, A: Allocator + Copy, W: Output>(
     alloc: A,
-    named: Named<'a>,
+    errors: Errors<'a>,
     read: &[u8],
     lines: &'a [Line<A>],
-    refusals: &[Fault],
-    format: Format,
     writer: &mut W,
 ) -> Result<(), ReportFault> {
-    let texts = cut(alloc, named.source)?;
+    let texts = cut(alloc, errors.source)?;
     let read = cut(alloc, read)?;
-    let values = with_values(alloc, read.as_slice(), lines, refusals)?;
+    let values = with_values(alloc, read.as_slice(), lines, errors.refusals)?;
     let checked = Checked {
-        name: named.name,
-        source: named.source,
+        name: errors.name,
+        source: errors.source,
         texts: texts.as_slice(),
         lines,
         values: values.as_ref(),
     };
-    put_each(alloc, &checked, refusals, format, writer)
+    put_each(alloc, &checked, errors.refusals, errors.format, writer)
 }
 
 // Writes the messages for the errors of a source that has lines that are not in the grammar, and for those of its other lines that no fix
 // of these can change. If the source is too large, there is no other error.
 fn put_of_text<A: Allocator + Copy, W: Output>(
     alloc: A,
-    named: Named<'_>,
-    refusals: &[Fault],
-    format: Format,
+    errors: Errors<'_>,
     writer: &mut W,
 ) -> Result<(), ReportFault> {
-    let texts = cut(alloc, named.source)?;
-    let read = without_unread(alloc, texts.as_slice(), refusals)?;
+    let texts = cut(alloc, errors.source)?;
+    let read = without_unread(alloc, texts.as_slice(), errors.refusals)?;
     let read = read.as_slice();
     match parse(alloc, read) {
         Ok(parsed) => {
-            let all = with_others(alloc, texts.as_slice(), &parsed, refusals)?;
-            put_of_lines(
-                alloc,
-                named,
-                read,
-                parsed.lines(),
-                all.as_slice(),
-                format,
-                writer,
-            )
+            let all = with_others(alloc, texts.as_slice(), &parsed, errors.refusals)?;
+            let errors = Errors {
+                refusals: all.as_slice(),
+                ..errors
+            };
+            put_of_lines(alloc, errors, read, parsed.lines(), writer)
         }
         Err(fault) => {
             refused(fault)?;
-            put_of_lines(alloc, named, read, &[], refusals, format, writer)
+            put_of_lines(alloc, errors, read, &[], writer)
         }
     }
 }
@@ -356,22 +344,17 @@ pub fn put_refusals<A: Allocator + Copy, W: Output>(
     if refusals.is_empty() {
         return Ok(put_end(format, 0, writer)?);
     }
-    let named = Named { name, source };
+    let errors = Errors {
+        name,
+        source,
+        refusals,
+        format,
+    };
     match parse(alloc, source) {
-        Ok(parsed) => {
-            put_of_lines(
-                alloc,
-                named,
-                source,
-                parsed.lines(),
-                refusals,
-                format,
-                writer,
-            )
-        }
+        Ok(parsed) => put_of_lines(alloc, errors, source, parsed.lines(), writer),
         Err(fault) => {
             refused(fault)?;
-            put_of_text(alloc, named, refusals, format, writer)
+            put_of_text(alloc, errors, writer)
         }
     }
 }

@@ -1,13 +1,20 @@
 //! Warnings about lines that assemble but may not do what their author meant.
 
+mod addresses;
+mod carry;
+mod falling;
 mod flow;
 mod lines;
 mod sentences;
+mod shown;
 mod statements;
 mod stores;
 
-use crate::warnings::flow::{is_unreached, unset_carry};
+use crate::warnings::carry::{unset_carry, warn_of_carries};
+use crate::warnings::falling::entered_from_above;
+use crate::warnings::flow::is_unreached;
 use crate::warnings::lines::{is_decimal_address, operation_in_label, sets_no_place, unwritten};
+use crate::warnings::shown::warn_of_shown;
 use crate::warnings::statements::{
     Begins, is_astray, kind_of, runs_out_after_service, shows_plain, stores_in_rom,
 };
@@ -42,6 +49,16 @@ pub enum WarningKind {
     Rom,
     /// A branch goes to an address where no instruction begins.
     Astray,
+    /// A text that the program writes to the screen has characters with bit 7 clear.
+    PlainText,
+    /// A character or text that is written to the screen is a small letter, or has one.
+    Small,
+    /// A subroutine is also entered from the line above it.
+    Entered,
+    /// ADC or SBC uses the carry of a comparison.
+    Compared,
+    /// SBC uses the carry that CLC cleared.
+    Cleared,
 }
 
 /// A line that may not do what its author meant, and why.
@@ -174,6 +191,21 @@ fn warn_of_flow<A: Allocator>(
             kind: WarningKind::Carry,
         })?;
     }
+    warn_of_carries(warnings, statements)
+}
+
+// Adds the warning for a subroutine that the program also enters from the line above it.
+fn warn_of_entered<A: Allocator + Copy>(
+    alloc: A,
+    warnings: &mut Vec<Warning, A>,
+    program: &Program<A>,
+) -> Result<(), AllocError> {
+    if let Some(line) = entered_from_above(alloc, program.statements(), program.entry())? {
+        warnings.push(Warning {
+            line: usize::from(line),
+            kind: WarningKind::Entered,
+        })?;
+    }
     Ok(())
 }
 
@@ -191,6 +223,8 @@ pub fn warnings_of<A: Allocator + Copy>(
     warn_of_texts(&mut warnings, texts)?;
     warn_of_lines(&mut warnings, texts, lines, program)?;
     warn_of_statements(alloc, &mut warnings, texts, program.statements())?;
+    warn_of_shown(alloc, &mut warnings, texts, lines, program.statements())?;
     warn_of_flow(&mut warnings, lines, program.statements())?;
+    warn_of_entered(alloc, &mut warnings, program)?;
     Ok(warnings)
 }

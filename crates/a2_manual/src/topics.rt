@@ -1106,7 +1106,10 @@ WANT: the cases of a2lab test, in lines of these forms
     fails if the routine does not return, unless a stop line names the cause
   screen: the next lines that begin with a bar are the rows of the screen from
     the top, and the rows after them are blank. Blanks at the end of a row do
-    not count. Rows that do not follow screen are ignored
+    not count. Rows that follow neither screen nor attr are ignored
+  attr: the next lines that begin with a bar are the rows of attributes, as
+    a2lab run --attr prints them: . for normal, I for inverse and F for
+    flashing. The rest of a row, and the rows after them, are normal.
   screen row 0 = "TEXT": the row of this number, 0 to 23 from the top, is this
     text. Blanks at its end do not count.
   screen holds "TEXT": some row contains this text

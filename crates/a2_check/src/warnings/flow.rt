@@ -1,14 +1,14 @@
 //! Warnings about the order in which statements are executed.
 
 use a2_asm::Statement;
-use a2_opcode::{Instr, Mnemonic, Mode};
+use a2_opcode::{Mnemonic, Mode};
 use a2_syntax::Line;
 use std::alloc::Allocator;
 
-// Whether the next instruction in memory is not executed after an instruction, unless another one leads there.
-fn ends(instr: Instr) -> bool {
+/// Whether the next instruction in memory is not executed after an instruction, unless another one leads there.
+pub(crate) fn ends(mnemonic: Mnemonic) -> bool {
     matches!(
-        instr.mnemonic,
+        mnemonic,
         Mnemonic::Jmp | Mnemonic::Rts | Mnemonic::Rti | Mnemonic::Brk
     )
 }
@@ -17,7 +17,7 @@ fn ends(instr: Instr) -> bool {
 fn follows_an_end(before: &Statement, statement: &Statement) -> bool {
     match (before.instr, statement.instr) {
         (Some(instr), Some(_)) => {
-            ends(instr) && before.addr.wrapping_add(before.length) == statement.addr
+            ends(instr.mnemonic) && before.addr.wrapping_add(before.length) == statement.addr
         }
         _ => false,
     }
@@ -59,45 +59,4 @@ pub(crate) fn is_unreached<A: Allocator>(
     follows_an_end(before, statement)
         && !has_label(lines, before.line, statement.line)
         && !is_led_to(statements, statement)
-}
-
-// Whether the carry is known after an instruction, or is no longer in question: the instruction sets or tests it, or the next
-// one is not executed, or not at once.
-fn settles_carry(mnemonic: Mnemonic) -> bool {
-    matches!(
-        mnemonic,
-        Mnemonic::Clc
-            | Mnemonic::Sec
-            | Mnemonic::Cmp
-            | Mnemonic::Cpx
-            | Mnemonic::Cpy
-            | Mnemonic::Asl
-            | Mnemonic::Lsr
-            | Mnemonic::Rol
-            | Mnemonic::Ror
-            | Mnemonic::Plp
-            | Mnemonic::Bcc
-            | Mnemonic::Bcs
-            | Mnemonic::Jsr
-            | Mnemonic::Jmp
-            | Mnemonic::Rts
-            | Mnemonic::Rti
-            | Mnemonic::Brk
-    )
-}
-
-/// Returns the number of the line of the first ADC or SBC of a program, or `None` if there is none, or if an instruction before
-/// it may set the carry.
-pub(crate) fn unset_carry(statements: &[Statement]) -> Option<u16> {
-    for statement in statements {
-        if let Some(instr) = statement.instr {
-            if matches!(instr.mnemonic, Mnemonic::Adc | Mnemonic::Sbc) {
-                return Some(statement.line);
-            }
-            if settles_carry(instr.mnemonic) {
-                return None;
-            }
-        }
-    }
-    None
 }

@@ -26,6 +26,15 @@ fn sentence_of(kind: WarningKind) -> &'static [u8] {
             b"this stores in ROM, which does not change; to call a routine there, write JSR: ",
         WarningKind::Astray =>
             b"no instruction begins at the target of this branch; write a label as its operand: ",
+        WarningKind::PlainText =>
+            b"a text in ' ' is shown inverse or flashing; in \" \" it is shown normally: ",
+        WarningKind::Small =>
+            b"the screen shows small letters as other characters; write capital letters: ",
+        WarningKind::Entered =>
+            b"the program runs on from the line above into this subroutine; write RTS before it: ",
+        WarningKind::Compared =>
+            b"this uses the carry from a comparison; write CLC before ADC, or SEC before SBC: ",
+        WarningKind::Cleared => b"after CLC, SBC subtracts one more; write SEC instead of CLC: ",
     }
 }
 

@@ -183,8 +183,8 @@ fn loads_index(statement: &Statement) -> bool
     }
 }
 
-// Whether a statement writes A to the screen: by a call of COUT or COUT1, or by a store in text page 1.
-fn puts(statement: &Statement) -> bool
+/// Whether a statement writes A to the screen: by a call of COUT or COUT1, or by a store in text page 1.
+pub(crate) fn puts(statement: &Statement) -> bool
     ensures { result ≡ warnings.puts statement.now }
 {
     let Some(instr) = statement.instr else {
@@ -207,6 +207,22 @@ fn is_put(following: &[Statement]) -> bool
         }
     }
     false
+}
+
+// Whether an instruction, in a line with this text, loads A with a small letter in double quotes.
+fn loads_small(text: &[u8], instr: Instr) -> bool {
+    instr.mnemonic == Mnemonic::Lda
+        && instr.mode == Mode::Immediate
+        && matches!(instr.value, 0xE1..=0xFA)
+        && matches!(after_number_sign(text), [b'"', ..])
+}
+
+/// Whether a statement, in a line with this text, loads A with a small letter, and the statements after it write A to the screen.
+pub(crate) fn shows_small(text: &[u8], statement: &Statement, following: &[Statement]) -> bool {
+    match statement.instr {
+        Some(instr) => loads_small(text, instr) && is_put(following),
+        None => false,
+    }
 }
 
 /// Whether a statement, in a line with this text, loads A with a character with bit 7 clear, and the statements after it write
