@@ -3,7 +3,7 @@ use Rattle.std.specs.Prelude.{◌≡◌, ◌==◌, ◌&&◌, ◌||◌, ℕ, Bool
 use Rattle.std.specs.List.{flat_map, list_all}
 use Rattle.std.proofs.Common.{◌+◌, ◌<◌, ap, drop, get_or, length, true≢false}
 use Rattle.std.proofs.lemmas.List.{drop_more}
-use Rattle.a2_tests.specs.Pages.{TextsArePlain, html_byte, is_plain}
+use Rattle.a2_tests.specs.Pages.{TextsArePlain, markup_byte, is_plain}
 
 one-plain : (less greater quote : Bool) → less ≡ false → greater ≡ false → quote ≡ false → ((not less && not greater && not quote) && true) ≡ true
 one-plain false false false h i j = refl
@@ -11,9 +11,9 @@ one-plain true greater quote h i j = absurd (true≢false h)
 one-plain false true quote h i j = absurd (true≢false i)
 one-plain false false true h i j = absurd (true≢false j)
 
-byte-plain : (is_utf8 : Bool) (c : ℕ) → list_all is_plain (html_byte is_utf8 c) ≡ true
-byte-plain is_utf8 c =
-    go (c == 0x22) (c == 0x26) (c == 0x3C) (c == 0x3E) (c == 0x0A) (nat_lt c 0x20 || c == 0x7F || (nat_lt 0x7F c && not is_utf8)) refl refl refl
+byte-plain : (has_lines is_utf8 : Bool) (c : ℕ) → list_all is_plain (markup_byte has_lines is_utf8 c) ≡ true
+byte-plain has_lines is_utf8 c =
+    go (c == 0x22) (c == 0x26) (c == 0x3C) (c == 0x3E) (c == 0x0A && has_lines) (nat_lt c 0x20 || c == 0x7F || (nat_lt 0x7F c && not is_utf8)) refl refl refl
   where
     go : (quote and less greater feed other : Bool) → (c == 0x22) ≡ quote → (c == 0x3C) ≡ less → (c == 0x3E) ≡ greater
         → list_all is_plain (if quote then codes "&quot;" else if and then codes "&amp;" else if less then codes "&lt;"
@@ -36,9 +36,10 @@ both-plain (c ∷ xs) ys h i =
     and-plain (is_plain c) (list_all is_plain xs) (list_all is_plain (xs ++ ys)) (λ rest. both-plain xs ys rest i) h
 
 pub texts-plain : TextsArePlain
-texts-plain is_utf8 [] = refl
-texts-plain is_utf8 (c ∷ text) =
-    both-plain (html_byte is_utf8 c) (flat_map (html_byte is_utf8) text) (byte-plain is_utf8 c) (texts-plain is_utf8 text)
+texts-plain has_lines is_utf8 [] = refl
+texts-plain has_lines is_utf8 (c ∷ text) =
+    both-plain (markup_byte has_lines is_utf8 c) (flat_map (markup_byte has_lines is_utf8) text) (byte-plain has_lines is_utf8 c)
+    (texts-plain has_lines is_utf8 text)
 
 -- what a page has for a text, from an index on
 pub pieces-next : (f : ℕ → List ℕ) (text : List ℕ) (i d : ℕ) → i < length text

@@ -6,7 +6,8 @@ use Rattle.std.proofs.Math.Nat.{suc-add}
 use Rattle.std.proofs.Math.Seq.{drop-nil}
 use Rattle.std.proofs.lemmas.List.{drop_more}
 use Rattle.a2_tests.specs.declared.line.NumberedLine.{NumberedLine}
-use Rattle.a2_tests.specs.Rows.{after_row, first_row, row_count, row_fits, rows_fit}
+use Rattle.a2_tests.specs.declared.rows.RowKind.{RowKind}
+use Rattle.a2_tests.specs.Rows.{after_row, first_row, fits, row_count, rows_fit}
 
 pub following-drop : (lines : List NumberedLine) (used : ℕ) → after_row (drop used lines) ≡ drop (used + row_count (drop used lines)) lines
 following-drop [] zero = refl
@@ -20,9 +21,9 @@ within-row [] (suc n) low = omega (arith, low)
 within-row (asked ∷ rest) zero low = grind arith
 within-row (asked ∷ rest) (suc n) low = omega (arith, within-row rest n (omega (arith, low)))
 
-pub rows-step : (lines : List NumberedLine) (used i n : ℕ) (items : List (Bor (List ℕ))) (d : Bor (List ℕ)) → i < length items
-    → row_fits (first_row (drop used lines)) (get_or items i d).now ≡ true → n ≡ row_count (drop used lines)
-    → rows_fit (drop used lines) (map (λ x. x.now) (drop i items)) ≡ rows_fit (drop (used + n) lines) (map (λ x. x.now) (drop (i + 1) items))
-rows-step lines used i n items d low fits is =
-    ap (λ (xs : List (Bor (List ℕ))). rows_fit (drop used lines) (map (λ x. x.now) xs)) (drop_more items i d low)
-    ∙ rw (fits, is) (ap (λ (rest : List NumberedLine). rows_fit rest (map (λ x. x.now) (drop (i + 1) items))) (following-drop lines used))
+pub rows-step : (kind : RowKind) (lines : List NumberedLine) (used i n : ℕ) (items : List (Bor (List ℕ))) (d : Bor (List ℕ)) → i < length items
+    → fits kind (first_row (drop used lines)) (get_or items i d).now ≡ true → n ≡ row_count (drop used lines)
+    → rows_fit kind (drop used lines) (map (λ x. x.now) (drop i items)) ≡ rows_fit kind (drop (used + n) lines) (map (λ x. x.now) (drop (i + 1) items))
+rows-step kind lines used i n items d low fitting is =
+    ap (λ (xs : List (Bor (List ℕ))). rows_fit kind (drop used lines) (map (λ x. x.now) xs)) (drop_more items i d low)
+    ∙ rw (fitting, is) (ap (λ (rest : List NumberedLine). rows_fit kind rest (map (λ x. x.now) (drop (i + 1) items))) (following-drop lines used))

@@ -4,7 +4,7 @@ use Rattle.std.proofs.Common.{sym, ap, ◌∙◌, arith}
 use Rattle.std.specs.List.{position_or_len}
 use Rattle.std.specs.Cmp.Lexicographic.{pointwise}
 use Rattle.a2_tests.specs.declared.line.Verb.{Verb}
-use Rattle.a2_tests.specs.declared.line.Verb.TheVariants.{Case, Keys, KeysAt, Replay, Free, Limit, Call, Screen, Mem, Reg, Stop, Stops, Cycles, Bytes, Must}
+use Rattle.a2_tests.specs.declared.line.Verb.TheVariants.{Case, Keys, KeysAt, Replay, Free, Limit, Call, Screen, Mem, Reg, Stop, Stops, Cycles, Bytes, Must, Attr}
 use Rattle.a2_tests.specs.declared.line.TheConstants.{VERBS}
 use Rattle.a2_tests.specs.Lines.{verb_letters}
 
@@ -25,8 +25,9 @@ verb_number Stops = 11
 verb_number Cycles = 12
 verb_number Bytes = 13
 verb_number Must = 14
+verb_number Attr = 15
 
-verb-few : (v : Verb) → verb_number v < 15
+verb-few : (v : Verb) → verb_number v < 16
 verb-few Case = omega arith
 verb-few _ = omega arith
 
@@ -53,7 +54,7 @@ pub verb-only : (word : List ℕ) (v w : Verb) → verb_letters v ≡ word → v
 verb-only word v w e f = ap (λ k. Some k) (same_verb v w (e ∙ sym f))
 
 -- a word that differs from all verbs in the table is not a verb
-pub verb-none : (word : List ℕ) (n : ℕ) → 15 ≤ n
+pub verb-none : (word : List ℕ) (n : ℕ) → 16 ≤ n
     → ((k : ℕ) → k < n → verb_letters (slice_index_or VERBS k Case) ≢ word)
     → (v : Verb) → verb_letters v ≢ word
 verb-none word n all others v e =

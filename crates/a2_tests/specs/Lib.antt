@@ -6,3 +6,4 @@ pub mod Requirements
 pub mod Calls
 pub mod Judging
 pub mod Pages
+pub mod Reports

@@ -3,7 +3,7 @@ use Rattle.std.specs.Prelude.{◌≡◌, ℕ, List, codes}
 use Rattle.std.specs.Str.Parse.{digits_value}
 use Rattle.a2_run.specs.Limits.{IsStepLimit}
 use Rattle.a2_tests.specs.declared.line.Verb.{Verb}
-use Rattle.a2_tests.specs.declared.line.Verb.TheVariants.{Case, Keys, KeysAt, Replay, Free, Limit, Call, Screen, Mem, Reg, Stop, Stops, Cycles, Bytes, Must}
+use Rattle.a2_tests.specs.declared.line.Verb.TheVariants.{Case, Keys, KeysAt, Replay, Free, Limit, Call, Screen, Mem, Reg, Stop, Stops, Cycles, Bytes, Must, Attr}
 
 -- the letters of a verb
 abbrev pub verb_letters : Verb → List ℕ
@@ -22,6 +22,7 @@ verb_letters Stops = codes "stops"
 verb_letters Cycles = codes "cycles"
 verb_letters Bytes = codes "bytes"
 verb_letters Must = codes "must"
+verb_letters Attr = codes "attr"
 
 -- a word spells a number, 0 to 100,000,000
 abbrev pub IsNumber : List ℕ → ℕ → Type 0

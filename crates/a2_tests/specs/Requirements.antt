@@ -20,7 +20,8 @@ use Rattle.a2_tests.specs.Settings.{byte_of, name_in, digits_in, tight}
 use Rattle.a2_tests.specs.Rows.{are_all, rows_fit, row_has_styled, row_is, holds}
 use Rattle.a2_tests.specs.declared.line.NumberedLine.{NumberedLine}
 use Rattle.a2_tests.specs.declared.line.Line.{Line}
-use Rattle.a2_tests.specs.declared.line.Line.TheVariants.{Screen, Shows, Holds, Styled, Plain, Mem, Reg, Stop, Cycles, Bytes, Uses, Avoids}
+use Rattle.a2_tests.specs.declared.rows.RowKind.TheVariants as kind
+use Rattle.a2_tests.specs.declared.line.Line.TheVariants.{Screen, Attributes, Shows, Holds, Styled, Plain, Mem, Reg, Stop, Cycles, Bytes, Uses, Avoids}
 
 -- the address of a place: a number after $, or a name of the program
 abbrev pub place_of : Assembled → List ℕ → Option ℕ
@@ -79,7 +80,8 @@ end_at state cause = record { world = world_of_state state; steps = state.steps;
 
 -- the end of a run meets a line; these lines follow it, and the source has this program
 abbrev pub Meets : Line → List NumberedLine → Assembled → End → Type 0
-Meets Screen rest program end = rows_fit rest (rows_of end.world.memory) ≡ true
+Meets Screen rest program end = rows_fit kind.Characters rest (rows_of end.world.memory) ≡ true
+Meets Attributes rest program end = rows_fit kind.Attributes rest (marks_of end.world.memory) ≡ true
 Meets (Shows number text) rest program end = row_is number text.now (rows_of end.world.memory) ≡ true
 Meets (Holds text) rest program end = holds text.now (rows_of end.world.memory) ≡ true
 Meets (Styled number attribute text) rest program end =

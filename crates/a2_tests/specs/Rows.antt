@@ -2,11 +2,14 @@
 use Rattle.std.specs.Prelude.{ℕ, Bool, true, false, not, if◌then◌else◌, ◌==◌, ◌&&◌, ◌||◌, List, [], ◌∷◌, Option, Some, None, nat_eq, nat_lt, slice_get, length, take, drop, ◌+◌, ◌-◌}
 use Rattle.std.specs.List.{list_all, list_any, starts_with}
 use Rattle.a2_page.specs.declared.Attribute.{Attribute}
+use Rattle.a2_page.specs.declared.Attribute.TheVariants.{Normal}
 use Rattle.a2_page.specs.Text.{mark_of}
 use Rattle.a2_text.specs.Bytes.{is_blank}
 use Rattle.a2_tests.specs.declared.line.NumberedLine.{NumberedLine}
 use Rattle.a2_tests.specs.declared.line.Line.{Line}
 use Rattle.a2_tests.specs.declared.line.Line.TheVariants.{Row}
+use Rattle.a2_tests.specs.declared.rows.RowKind.{RowKind}
+use Rattle.a2_tests.specs.declared.rows.RowKind.TheVariants as kind
 
 -- two rows are the same except for blanks at their ends
 abbrev pub is_same : List ℕ → List ℕ → Bool
@@ -21,6 +24,19 @@ is_any _ = false
 
 abbrev pub row_fits : List ℕ → List ℕ → Bool
 row_fits wanted shown = is_any wanted || is_same wanted shown
+
+-- all marks are of this attribute
+abbrev pub are_all : Attribute → List ℕ → Bool
+are_all attribute marks = list_all (λ mark. mark == mark_of attribute) marks
+
+-- the first marks of a row are the expected ones, and the others are normal
+abbrev pub marks_fit : List ℕ → List ℕ → Bool
+marks_fit wanted shown = is_any wanted || (starts_with nat_eq shown wanted && are_all Normal (drop (length wanted) shown))
+
+-- a row of characters, or of the marks of their attributes, is the expected one
+abbrev pub fits : RowKind → List ℕ → List ℕ → Bool
+fits kind.Characters wanted shown = row_fits wanted shown
+fits kind.Attributes wanted shown = marks_fit wanted shown
 
 -- the row that some lines begin with, blank if they do not begin with one, and the lines after it
 abbrev pub row_of : Line → List ℕ
@@ -47,11 +63,11 @@ after_row (asked ∷ rest) = if is_row asked.line then rest else asked ∷ rest
 abbrev pub row_count : List NumberedLine → ℕ
 row_count lines = if begins_with_row lines then 1 else 0
 
--- the rows of a screen, from the top, are those of these lines, and the remaining rows are blank; no more rows are
+-- the rows of a screen, from the top, are those of these lines, and the remaining rows are blank, or normal; no more rows are
 -- required
-abbrev pub rows_fit : List NumberedLine → List (List ℕ) → Bool
-rows_fit wanted [] = not (begins_with_row wanted)
-rows_fit wanted (row ∷ rows) = row_fits (first_row wanted) row && rows_fit (after_row wanted) rows
+abbrev pub rows_fit : RowKind → List NumberedLine → List (List ℕ) → Bool
+rows_fit kind wanted [] = not (begins_with_row wanted)
+rows_fit kind wanted (row ∷ rows) = fits kind (first_row wanted) row && rows_fit kind (after_row wanted) rows
 
 -- the row with this number, from 0 at the top, is the expected one
 abbrev pub row_is : ℕ → List ℕ → List (List ℕ) → Bool
@@ -68,10 +84,6 @@ holds part rows = list_any (has part) rows
 
 -- Attributes: rows of them are as `a2 run --attr` prints them, with a mark for each character. There are none for the rows of blocks
 -- that come first in a graphics mode.
-
--- all marks are of this attribute
-abbrev pub are_all : Attribute → List ℕ → Bool
-are_all attribute marks = list_all (λ mark. mark == mark_of attribute) marks
 
 -- a text with these marks contains a part whose characters are shown like this
 abbrev pub has_styled : Attribute → List ℕ → List ℕ → List ℕ → Bool

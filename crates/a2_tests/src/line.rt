@@ -35,7 +35,10 @@ pub enum Line<'a> {
     Call(Call<'a>),
     /// `screen`: the rows on the lines that follow are those of the screen, from the top; the remaining rows are blank.
     Screen,
-    /// `|TEXT`: a row of the screen.
+    /// `attr`: the rows on the lines that follow are those of the attributes, as `a2 run --attr` prints them; what is left out is
+    /// normal.
+    Attributes,
+    /// `|TEXT`: a row of the screen, or of its attributes.
     Row(&'a [u8]),
     /// `screen row 3 = "TEXT"`: the row with this number, from 0 at the top, is this text; `~` means any text.
     Shows(u16, &'a [u8]),
@@ -106,10 +109,11 @@ pub(crate) enum Verb {
     Cycles,
     Bytes,
     Must,
+    Attr,
 }
 
 /// All verbs.
-pub(crate) const VERBS: [Verb; 15] = [
+pub(crate) const VERBS: [Verb; 16] = [
     Verb::Case,
     Verb::Keys,
     Verb::KeysAt,
@@ -125,6 +129,7 @@ pub(crate) const VERBS: [Verb; 15] = [
     Verb::Cycles,
     Verb::Bytes,
     Verb::Must,
+    Verb::Attr,
 ];
 
 impl Verb {
@@ -148,6 +153,7 @@ impl Verb {
             Verb::Cycles => b"cycles",
             Verb::Bytes => b"bytes",
             Verb::Must => b"must",
+            Verb::Attr => b"attr",
         }
     }
 }
@@ -408,10 +414,10 @@ fn called<'a>(rest: &'a [u8]) -> Option<Line<'a>> {
     }
 }
 
-// Parses the text after `free`.
-fn free<'a>(rest: &'a [u8]) -> Option<Line<'a>> {
+// Returns the line of a verb that is alone, if nothing follows it.
+fn alone<'a>(line: Line<'a>, rest: &'a [u8]) -> Option<Line<'a>> {
     match first_word(rest) {
-        None => Some(Line::Free),
+        None => Some(line),
         Some(_) => None,
     }
 }
@@ -423,7 +429,7 @@ fn said<'a>(verb: Verb, rest: &'a [u8]) -> Option<Line<'a>> {
         Verb::Keys => Some(Line::Keys(keys_in(rest)?)),
         Verb::KeysAt => Some(Line::KeysAt(stroke_after(rest)?)),
         Verb::Replay => Some(Line::Replay(file_in(rest)?)),
-        Verb::Free => free(rest),
+        Verb::Free => alone(Line::Free, rest),
         Verb::Limit => Some(Line::Limit(limit_in(rest)?)),
         Verb::Call => called(rest),
         Verb::Screen => screen(rest),
@@ -433,6 +439,7 @@ fn said<'a>(verb: Verb, rest: &'a [u8]) -> Option<Line<'a>> {
         Verb::Cycles => Some(Line::Cycles(most_in(rest)?)),
         Verb::Bytes => Some(Line::Bytes(most_in(rest)?)),
         Verb::Must => must(rest),
+        Verb::Attr => alone(Line::Attributes, rest),
     }
 }
 

@@ -17,6 +17,7 @@ enum Mistake {
     Typed,
     Recording,
     Alone,
+    Marks,
     Routine,
     Equals,
     Byte,
@@ -40,23 +41,25 @@ impl Mistake {
         match self {
             Mistake::Verb => b"`@` does not begin a line of a test file",
             Mistake::Steps => b"`limit` needs a number of steps from 0 to 100000000, not `@`",
-            Mistake::Keys => b"`keys` needs at most 4096 keys, not `@`",
+            Mistake::Keys => b"`@` cannot be typed",
             Mistake::Stroke =>
                 b"`keys-at` needs a number of steps from 0 to 100000000, a colon and keys, not `@`",
-            Mistake::Typed => b"`keys-at` needs at most 4096 keys after the colon, not `@`",
+            Mistake::Typed => b"`@` cannot be typed",
             Mistake::Recording => b"`@` is not the name of a file",
             Mistake::Alone => b"nothing can follow `free`, but `@` does",
+            Mistake::Marks => b"nothing can follow `attr`, but `@` does",
             Mistake::Routine => b"`@` is not the name of a routine",
             Mistake::Equals => b"`=` and a byte are missing after `@`",
             Mistake::Byte => b"`@` is not a byte",
             Mistake::Register => b"`@` is not a register",
-            Mistake::Destination => b"`@` is not a place for a byte",
+            Mistake::Destination => b"`@` is not a register, a name or an address",
             Mistake::Place => b"`mem` needs a place, `=` and bytes, not `@`",
             Mistake::Row => b"`@` is not the number of a row",
             Mistake::Shown => b"`=` and a text are missing after `@`",
             Mistake::Attribute => b"`@` does not say how characters are shown",
             Mistake::Quotes => b"the text is not between quotes: `@`",
-            Mistake::Screen => b"`screen` is alone, or `row`, `holds` or `is` follows it, not `@`",
+            Mistake::Screen =>
+                b"`screen` is alone in its line, or `row`, `holds` or `is` follows it, not `@`",
             Mistake::Cause => b"`@` is not the cause of a stop",
             Mistake::Most => b"`<=` and a number from 0 to 100000000 are expected, not `@`",
             Mistake::Must => b"`use` or `not use` is expected after `must`, not `@`",
@@ -68,19 +71,21 @@ impl Mistake {
     fn fix(self) -> &'static [u8] {
         match self {
             Mistake::Verb =>
-                b"write case, keys, keys-at, replay, free, limit, call, screen, mem, reg, stop, cycles, bytes or must",
+                b"write case, keys, keys-at, replay, free, limit, call, screen, attr, mem, reg, stop, cycles, bytes or must",
             Mistake::Steps => b"write it as in limit 20000",
             Mistake::Stroke => b"write it as in keys-at 1200:HI\\r",
             Mistake::Recording => b"write it as in replay game.keys",
             Mistake::Alone => b"write free alone",
+            Mistake::Marks =>
+                b"write attr alone; in the lines after it, write the rows that run --attr prints, each after a |",
             Mistake::Keys | Mistake::Typed =>
-                b"write the characters from space to ~, \\r for RETURN, \\b and \\f for the arrows, \\x for Ctrl-X, \\\\ for \\",
+                b"write at most 4096 keys: the characters from space to ~, \\r for RETURN, \\b and \\f for the arrows, \\x for Ctrl-X, \\\\ for \\",
             Mistake::Routine => b"write it as in call DOUBLE A=15",
             Mistake::Equals => b"write it as in A=0F",
             Mistake::Byte =>
                 b"write two hexadecimal digits such as 0F, a decimal number such as #15, or a binary one such as %1111",
             Mistake::Register => b"write A, X, Y, P or S",
-            Mistake::Destination => b"write a register, a name or an address, as in $320=0F",
+            Mistake::Destination => b"write it as in A=0F, RESULT=0F or $320=0F",
             Mistake::Place => b"write it as in mem $320 = A9 01",
             Mistake::Row => b"write a number from 0 to 23",
             Mistake::Shown => b"write it as in screen row 0 = \"TEXT\"",
@@ -278,6 +283,7 @@ fn wrong_in<'a>(text: &'a [u8]) -> Wrong<'a> {
         Some(Verb::Stop | Verb::Stops) => Wrong::all(Mistake::Cause, rest),
         Some(Verb::Cycles | Verb::Bytes) => Wrong::all(Mistake::Most, rest),
         Some(Verb::Must) => wrong_must(rest),
+        Some(Verb::Attr) => Wrong::all(Mistake::Marks, rest),
     }
 }
 

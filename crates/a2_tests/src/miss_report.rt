@@ -6,7 +6,7 @@ use crate::requirements::{
     Ending, first_different_byte, first_different_register, first_use_of, place_of, register_byte,
     size_of,
 };
-use crate::rows::{Rows, are_all, first_row, marks_for, row_count, row_fits};
+use crate::rows::{RowKind, Rows, are_all, first_row, fits, marks_for, row_count};
 use crate::settings::{name_in, tight};
 use a2_opcode::Mnemonic;
 use a2_page::Attribute;
@@ -26,9 +26,9 @@ fn trimmed(row: &[u8]) -> &[u8] {
     rest
 }
 
-// Returns the first row of the screen that is not the expected one: its number, from 0, the expected row, and the row
-// found.
+// Returns the first row that is not the expected one: its number, from 0, the expected row, and the row found.
 fn first_different_row<'a, 'b>(
+    kind: RowKind,
     lines: &[NumberedLine<'a>],
     shown: &[&'b [u8]],
 ) -> Option<(usize, &'a [u8], &'b [u8])> {
@@ -36,7 +36,7 @@ fn first_different_row<'a, 'b>(
     for (number, row) in shown.iter().enumerate() {
         let here = following(lines, used.min(lines.len()));
         let wanted = first_row(here);
-        if !row_fits(wanted, *row) {
+        if !fits(kind, wanted, *row) {
             return Some((number, wanted, *row));
         }
         used = used.saturating_add(row_count(here));
@@ -56,10 +56,56 @@ fn report_rows<A: Allocator + Copy>(
     lines: &[NumberedLine],
     shown: &[&[u8]],
 ) -> Result<(), AllocError> {
-    let Some((number, wanted, row)) = first_different_row(lines, shown) else {
-        return put_fewer(text, shown.len());
+    match first_different_row(RowKind::Characters, lines, shown) {
+        Some((number, wanted, row)) => report_row(text, number, wanted, row),
+        None => put_fewer(text, shown.len()),
+    }
+}
+
+// Reports that the screen has only this many rows with attributes, although another one is expected.
+fn put_fewer_marks<A: Allocator + Copy>(
+    text: &mut Vec<u8, A>,
+    rows: usize,
+) -> Result<(), AllocError> {
+    let rows = decimal(rows as u64);
+    append(
+        text,
+        &[b"attr: only ", rows.as_slice(), b" rows have attributes"],
+    )
+}
+
+// Returns the marks of a row without the normal ones at its end, but at least so many marks.
+fn without_normal(marks: &[u8], least: usize) -> &[u8] {
+    let mut end = least;
+    for (index, mark) in marks.iter().enumerate() {
+        if *mark != b'.' {
+            end = end.max(index.saturating_add(1));
+        }
+    }
+    &marks[..end.min(marks.len())]
+}
+
+// Reports the first row of attributes that is not the expected one.
+fn report_attribute_rows<A: Allocator + Copy>(
+    text: &mut Vec<u8, A>,
+    lines: &[NumberedLine],
+    rows: Rows<'_>,
+) -> Result<(), AllocError> {
+    let Some((number, wanted, marks)) = first_different_row(RowKind::Attributes, lines, rows.marks)
+    else {
+        return put_fewer_marks(text, rows.marks.len());
     };
-    report_row(text, number, wanted, row)
+    let first = rows.texts.len().saturating_sub(rows.marks.len());
+    report_number(text, first.saturating_add(number))?;
+    append(text, &[b": expected the attributes \"", wanted])?;
+    append(
+        text,
+        &[
+            b"\", found \"",
+            without_normal(marks, wanted.len()),
+            b"\"; . is normal, I is inverse, F is flashing",
+        ],
+    )
 }
 
 // Reports a row of the screen that is not the expected one.
@@ -305,6 +351,7 @@ fn report_difference<A: Allocator + Copy>(
     };
     match asked.line {
         Line::Screen => report_rows(text, rest, ending.rows),
+        Line::Attributes => report_attribute_rows(text, rest, ending.screen()),
         Line::Shows(number, wanted) => report_row_at(text, number, wanted, ending.rows),
         Line::Holds(part) => append(text, &[b"no row of the screen contains \"", part, b"\""]),
         Line::Styled(number, attribute, part) => {

@@ -10,7 +10,7 @@ ghost use Rattle.a2_tests.specs.Settings.{tight as tight_text};
 ghost use Rattle.a2_tests.specs.Requirements.{IsFirstMissed, Meets, MeetsAll, MeetsFirst, end_at};
 
 use crate::line::{Line, NumberedLine, following};
-use crate::rows::{Rows, all_are, holds, row_has_styled, row_is, rows_fit};
+use crate::rows::{RowKind, Rows, all_are, holds, row_has_styled, row_is, rows_fit};
 use crate::settings::{byte_of, digits_in, name_in, tight};
 use a2_asm::{Program, Statement};
 use a2_cpu::Regs;
@@ -225,7 +225,8 @@ fn is_met_by<A: Allocator + Copy>(
         (end_at ending.now.machine.now.state ending.now.cause)) }
 {
     match line {
-        Line::Screen => Ok(rows_fit(rest, ending.rows)),
+        Line::Screen => Ok(rows_fit(RowKind::Characters, rest, ending.rows)),
+        Line::Attributes => Ok(rows_fit(RowKind::Attributes, rest, ending.marks)),
         Line::Shows(number, text) => Ok(row_is(number, text, ending.rows)),
         Line::Holds(text) => Ok(holds(ending.rows, text)),
         Line::Styled(number, attribute, text) => {

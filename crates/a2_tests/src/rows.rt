@@ -73,14 +73,48 @@ pub(crate) fn row_count(lines: &[NumberedLine]) -> usize
     if begins_with_row(lines) { 1 } else { 0 }
 }
 
-/// Returns whether the rows of a screen, from the top, are those on the lines, and the remaining rows are blank.
-pub(crate) fn rows_fit(lines: &[NumberedLine], shown: &[&[u8]]) -> bool
-    ensures { result ≡ row.rows_fit lines.now (map (λ x. x.now) shown.now) }
+/// What the rows of a screen show.
+#[derive(Clone, Copy)]
+pub(crate) enum RowKind {
+    /// Characters.
+    Characters,
+    /// The marks of their attributes, as `a2 run --attr` prints them.
+    Attributes,
+}
+
+// Returns whether the first marks of a row are the expected ones, and the others are normal. `~` stands for any row.
+fn marks_fit(wanted: &[u8], shown: &[u8]) -> bool
+    ensures { result ≡ row.marks_fit wanted.now shown.now }
+{
+    matches!(wanted, [b'~'])
+        || (shown.starts_with(wanted) && are_all(Attribute::Normal, after_marks(shown, wanted)))
+}
+
+// Returns the marks after the first ones, which are as many as the expected ones.
+fn after_marks<'a>(shown: &'a [u8], wanted: &[u8]) -> &'a [u8]
+    ensures { result.now ≡ drop (length wanted.now) shown.now }
+{
+    &shown[wanted.len().min(shown.len())..]
+}
+
+/// Returns whether a row is the expected one.
+pub(crate) fn fits(kind: RowKind, wanted: &[u8], shown: &[u8]) -> bool
+    ensures { result ≡ row.fits kind wanted.now shown.now }
+{
+    match kind {
+        RowKind::Characters => row_fits(wanted, shown),
+        RowKind::Attributes => marks_fit(wanted, shown),
+    }
+}
+
+/// Returns whether the rows of a screen, from the top, are those on the lines, and the remaining rows are blank, or normal.
+pub(crate) fn rows_fit(kind: RowKind, lines: &[NumberedLine], shown: &[&[u8]]) -> bool
+    ensures { result ≡ row.rows_fit kind lines.now (map (λ x. x.now) shown.now) }
 {
     let mut used = 0;
     for text in shown {
         let here = following(lines, used);
-        if !row_fits(first_row(here), text) {
+        if !fits(kind, first_row(here), text) {
             return false;
         }
         used += row_count(here);

@@ -1,6 +1,7 @@
 //! The command `film`: its arguments, and the page that it writes.
 
-ghost use Rattle.std.specs.Prelude.{◌≤◌, IfOk};
+ghost use Rattle.std.specs.Prelude.{◌≡◌, ◌≤◌, codes, IfSome, IfOk};
+ghost use Rattle.a2_arguments.specs.Found.{found_of, text_given};
 ghost use Rattle.a2lab_reports.specs.Filmed.{FilmsInto};
 
 use a2_arguments::Arguments;
@@ -11,7 +12,7 @@ use a2_run::{AssembledText, RunFault};
 use a2_stream::{Input, Output};
 use a2_symbols::report_stop;
 use a2_timed_keys::Ended;
-use a2lab_commands::options::{FILM_FROM, FILM_LIMIT, PAGE, SCRIPT, STEPS};
+use a2lab_commands::options::{FILM_FROM, FILM_LIMIT, PAGE, SCRIPT, STEPS, TITLE};
 use a2lab_commands::{
     CommandArgs, Host, Message, Refusal, TimedRunArgs, Value, assembled_text, ended_of,
     expanded_text_of, refuse_overwriting_input, report, settled, stop_status, text_of,
@@ -109,12 +110,22 @@ fn film<S, D: Desk, C, R, W: Output, E>(
     }
 }
 
-// Returns the title of the film of a file: its name without a folder, or the program's name for standard input.
-fn title_of(file: Option<&str>) -> &str {
+// Returns the name of a file without its folder, or the program's name for standard input.
+fn name_of(file: Option<&str>) -> &str {
     let path = file.unwrap_or("a2");
     match path.rsplit_once('/') {
         Some((_, name)) => name,
         None => path,
+    }
+}
+
+// Returns the title of the film of a file: the one that the arguments give, or the name of the file.
+fn title_of<'a>(arguments: &Arguments<'a>, file: Option<&'a str>) -> &'a str
+    ensures { IfSome (text_given (codes "--title") (found_of arguments.now)) (λ title. result.now ≡ title) }
+{
+    match arguments.text(&TITLE) {
+        Some(title) => title,
+        None => name_of(file),
     }
 }
 
@@ -196,7 +207,7 @@ pub fn film_of<'a, S: Shelf, D: Desk, C, R: Input, W: Output, E: Output>(
     };
     let assembled = assembled_text(alloc, file, text.as_slice(), &mut host.complaints)?;
     let titles = Titles {
-        title: title_of(file).as_bytes(),
+        title: title_of(given.arguments, file).as_bytes(),
         chapters: chapters.as_slice(),
     };
     film_window(&assembled, titles, &timed, window, asked.page, host)

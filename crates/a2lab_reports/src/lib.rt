@@ -8,6 +8,7 @@
 mod drawing;
 mod film;
 mod films;
+mod pages;
 mod profiling;
 mod running;
 mod saving;

@@ -2,21 +2,25 @@
 
 ghost use Rattle.std.specs.Prelude.{◌≤◌, IfOk};
 
-use crate::films::{Filmed, put_end, put_films};
+use crate::films::put_end;
+use crate::pages::{Examined, page_of, same_page};
 use crate::sessions::read_sessions;
 use a2_arguments::Arguments;
 use a2_check::Format::Long;
 use a2_check::{put_refusals, refusals_of};
-use a2_host::Shelf;
+use a2_host::{Desk, Shelf};
 use a2_run::{AssembledText, ReadingFault, RunFault, read_text};
 use a2_stream::{Input, Output, ToWrite, put};
 use a2_tests::{
     Case, Format, Found, Line, NumberedLine, SourceErrors, Totals, cases_of, judge_source,
-    lines_of, put_head, put_line_fault, put_solution,
+    lines_of, put_head, put_line_fault,
 };
 use a2_text::cut;
-use a2lab_commands::options::TEST_FORMAT;
-use a2lab_commands::{CommandArgs, Host, Message, Refusal, Value, is_input, report};
+use a2lab_commands::options::{PAGES, TEST_FORMAT};
+use a2lab_commands::{
+    CommandArgs, Host, Message, Reading, Refusal, Value, is_input, reading_of, report,
+    report_origins,
+};
 use std::alloc::{AllocError, Global};
 
 // The exit status if a solution did not pass all cases.
@@ -24,10 +28,12 @@ const NOT_PASSED: u8 = 6;
 
 // The arguments of `test`: the test file and at least one solution.
 #[derive(Clone, Copy)]
-struct TestArgs<'a> {
+struct TestArgs<'a, 'b> {
     format: Format,
+    // The folder into which the page of each solution is written.
+    pages: Option<&'a str>,
     want: &'a str,
-    solutions: &'a [&'a str],
+    solutions: &'b [&'a str],
 }
 
 // Returns the format that the arguments name.
@@ -42,7 +48,7 @@ fn format_in(arguments: &Arguments<'_>) -> Format {
 }
 
 // Returns the files after the first.
-fn after_want<'a>(files: &'a [&'a str]) -> &'a [&'a str] {
+fn after_want<'a, 'b>(files: &'b [&'a str]) -> &'b [&'a str] {
     match files {
         [] => files,
         [_, solutions @ ..] => solutions,
@@ -116,83 +122,158 @@ fn text_in<S: Shelf, D, C, R: Input, W, E>(
     read_text(host.alloc, &mut reader)
 }
 
-// Prints what was found of a solution, and counts it.
-fn put_counted<W: Output>(
-    exam: &TestArgs,
-    name: &str,
-    cases: &[Case<Global>],
-    found: &Found<Global>,
-    totals: &mut Totals,
-    output: &mut W,
-) -> Result<(), RunFault> {
-    let solution = totals.files();
-    totals.count(found);
-    put_solution(exam.format, solution, name.as_bytes(), cases, found, output)?;
-    Ok(())
+// A solution: its name, its plain text, and how its file is read.
+#[derive(Clone, Copy)]
+struct Solution<'a> {
+    name: &'a str,
+    text: &'a [u8],
+    reading: &'a Reading,
 }
 
-// Returns the errors of a source, as `check` prints them.
-fn errors_of(alloc: Global, name: &str, source: &[u8]) -> Result<Vec<u8>, RunFault> {
-    let refusals = refusals_of(alloc, source)?;
+// Returns the errors of a solution, as `check` prints them.
+fn errors_of(alloc: Global, solution: Solution<'_>) -> Result<Vec<u8>, RunFault> {
+    let refusals = refusals_of(alloc, solution.text)?;
     let mut lines = Vec::new(alloc);
     put_refusals(
         alloc,
-        name,
-        source,
+        solution.name,
+        solution.text,
         refusals.as_slice(),
         Long,
         &mut ToWrite::new(&mut lines),
     )
     .map_err(|_| RunFault::Memory)?;
+    if let Reading::Larger(expanded) = solution.reading {
+        report_origins(expanded, refusals.as_slice(), &mut ToWrite::new(&mut lines));
+    }
     Ok(lines)
 }
 
-// Judges a solution, and prints what was found.
-fn examine<S: Shelf, D, C, R: Input, W: Output, E>(
-    exam: &TestArgs,
-    name: &str,
-    cases: &[Case<Global>],
+// Writes the page of a solution, if a folder for pages is given, then prints what was found of the solution and counts it. Returns
+// whether the page was written; that it was not is reported.
+fn tell<S, D: Desk, C, R, W: Output, E: Output>(
+    exam: &TestArgs<'_, '_>,
+    examined: &Examined<'_, '_>,
     totals: &mut Totals,
     host: &mut Host<S, D, C, R, W, E>,
-) -> Result<(), RunFault> {
-    let text = match text_in(name, host) {
-        Ok(text) => text,
-        Err(ReadingFault::Memory) => return Err(RunFault::Memory),
-        Err(ReadingFault::Read) => {
-            let found = Found::Refused(b"cannot be read");
-            return put_counted(exam, name, cases, &found, totals, &mut host.output);
+) -> Result<bool, RunFault> {
+    if let Some(folder) = exam.pages {
+        let page = page_of(host.alloc, folder, examined.name)?;
+        let page = std::str::from_utf8(page.as_slice()).unwrap_or(folder);
+        match examined.page_into(host.alloc, page, &mut host.desk) {
+            Ok(()) => {}
+            Err(RunFault::Memory) => return Err(RunFault::Memory),
+            Err(_) => {
+                let values = [Value::Text(page)];
+                report(Message::PageNotWritten, &values, &mut host.complaints);
+                return Ok(false);
+            }
         }
-    };
-    match AssembledText::of(host.alloc, text.as_slice()) {
+    }
+    examined.put(host.alloc, exam.format, totals.files(), &mut host.output)?;
+    totals.count(examined.found);
+    Ok(true)
+}
+
+// Judges the plain text of a solution, and tells what was found.
+fn judge<S, D: Desk, C, R, W: Output, E: Output>(
+    exam: &TestArgs<'_, '_>,
+    solution: Solution<'_>,
+    cases: &[Case<'_, Global>],
+    totals: &mut Totals,
+    host: &mut Host<S, D, C, R, W, E>,
+) -> Result<bool, RunFault> {
+    let Solution { name, text, .. } = solution;
+    match AssembledText::of(host.alloc, text) {
         Ok(assembled) => {
             let verdicts = judge_source(host.alloc, cases, &assembled)?;
-            let (found, solution) = (Found::Judged(verdicts.as_slice()), totals.files());
-            put_counted(exam, name, cases, &found, totals, &mut host.output)?;
-            if let Format::Html = exam.format {
-                let filmed = Filmed {
-                    name,
-                    solution,
-                    source: text.as_slice(),
-                };
-                put_films(
-                    host.alloc,
-                    &filmed,
-                    cases,
-                    verdicts.as_slice(),
-                    &mut host.output,
-                )?;
-            }
-            Ok(())
+            let found = Found::Judged(verdicts.as_slice());
+            let examined = Examined {
+                name,
+                source: text,
+                cases,
+                found: &found,
+            };
+            tell(exam, &examined, totals, host)
         }
         Err(RunFault::Memory) => Err(RunFault::Memory),
         Err(fault) => {
-            let lines = errors_of(host.alloc, name, text.as_slice())?;
-            let why = fault.text();
+            let lines = errors_of(host.alloc, solution)?;
+            let first = fault.text();
             let found = Found::Invalid(SourceErrors {
-                first: why.as_str().as_bytes(),
+                first: first.as_str().as_bytes(),
                 lines: lines.as_slice(),
             });
-            put_counted(exam, name, cases, &found, totals, &mut host.output)
+            let examined = Examined {
+                name,
+                source: text,
+                cases,
+                found: &found,
+            };
+            tell(exam, &examined, totals, host)
+        }
+    }
+}
+
+// Returns the text to assemble of a source that is read so.
+fn plain_text<'a>(source: &'a [u8], reading: &'a Reading) -> &'a [u8] {
+    match reading {
+        Reading::Larger(expanded) => expanded.text.as_slice(),
+        Reading::Plain | Reading::Failed(_) => source,
+    }
+}
+
+// Judges the text of a solution, or its expansion if it is in the larger language, and tells what was found.
+fn examine_text<'s, S: Shelf, D: Desk, C, R, W: Output, E: Output>(
+    exam: &TestArgs<'_, '_>,
+    (name, source): (&'s str, &'s [u8]),
+    cases: &'s [Case<'_, Global>],
+    totals: &mut Totals,
+    host: &mut Host<S, D, C, R, W, E>,
+) -> Result<bool, RunFault> {
+    let reading = reading_of(host.alloc, Some(name), source, &mut host.shelf)?;
+    if let Reading::Failed(why) = &reading {
+        let found = Found::Invalid(SourceErrors {
+            first: why.report.text.as_slice(),
+            lines: why.message.as_slice(),
+        });
+        let examined = Examined {
+            name,
+            source,
+            cases,
+            found: &found,
+        };
+        return tell(exam, &examined, totals, host);
+    }
+    let text = plain_text(source, &reading);
+    let solution = Solution {
+        name,
+        text,
+        reading: &reading,
+    };
+    judge(exam, solution, cases, totals, host)
+}
+
+// Reads and judges a solution, and tells what was found. Returns whether its page was written, if it was to be.
+fn examine<S: Shelf, D: Desk, C, R: Input, W: Output, E: Output>(
+    exam: &TestArgs<'_, '_>,
+    name: &str,
+    cases: &[Case<'_, Global>],
+    totals: &mut Totals,
+    host: &mut Host<S, D, C, R, W, E>,
+) -> Result<bool, RunFault> {
+    match text_in(name, host) {
+        Ok(text) => examine_text(exam, (name, text.as_slice()), cases, totals, host),
+        Err(ReadingFault::Memory) => Err(RunFault::Memory),
+        Err(ReadingFault::Read) => {
+            let found = Found::Refused(b"cannot be read");
+            let examined = Examined {
+                name,
+                source: b"",
+                cases,
+                found: &found,
+            };
+            tell(exam, &examined, totals, host)
         }
     }
 }
@@ -214,8 +295,8 @@ fn report_want<S, D, C, R, W, E: Output>(
 }
 
 // Judges all solutions by the text of a test file, prints what was found, and returns the exit status.
-fn test_by<S: Shelf, D, C, R: Input, W: Output, E: Output>(
-    exam: &TestArgs,
+fn test_by<S: Shelf, D: Desk, C, R: Input, W: Output, E: Output>(
+    exam: &TestArgs<'_, '_>,
     want: &[u8],
     host: &mut Host<S, D, C, R, W, E>,
 ) -> Result<u8, RunFault>
@@ -236,7 +317,9 @@ fn test_by<S: Shelf, D, C, R: Input, W: Output, E: Output>(
     let mut totals = Totals::new();
     put_head(exam.format, cases.as_slice(), &mut host.output)?;
     for name in exam.solutions {
-        examine(exam, *name, cases.as_slice(), &mut totals, host)?;
+        if !examine(exam, *name, cases.as_slice(), &mut totals, host)? {
+            return Ok(4);
+        }
     }
     put_end(host.alloc, exam.format, &totals, &mut host.output)?;
     if totals.failed == 0 && totals.refused == 0 {
@@ -246,10 +329,40 @@ fn test_by<S: Shelf, D, C, R: Input, W: Output, E: Output>(
     }
 }
 
+// Refuses folders for pages in which two solutions would have the same page, or a page would overwrite a file that is read.
+fn refuse_pages<'a, S, D: Desk, C, R, W, E: Output>(
+    exam: &TestArgs<'a, '_>,
+    host: &mut Host<S, D, C, R, W, E>,
+) -> Result<(), Refusal<'a>> {
+    let Some(folder) = exam.pages else {
+        return Ok(());
+    };
+    if let Some((first, other)) = same_page(host.alloc, exam.solutions)? {
+        return Err(Refusal::of_two(Message::SamePage, first, other));
+    }
+    for solution in exam.solutions {
+        let page = page_of(host.alloc, folder, *solution)?;
+        let page = std::str::from_utf8(page.as_slice()).unwrap_or(folder);
+        refuse_overwriting(page, exam.want, &host.desk)?;
+        for other in exam.solutions {
+            refuse_overwriting(page, *other, &host.desk)?;
+        }
+    }
+    Ok(())
+}
+
+// Refuses a page that would overwrite a file that is read.
+fn refuse_overwriting<'a, D: Desk>(page: &str, read: &'a str, desk: &D) -> Result<(), Refusal<'a>> {
+    if read.ends_with(".html") && (page == read || desk.are_same_file(page, read)) {
+        return Err(Refusal::of(Message::TestPageOverwrites, read));
+    }
+    Ok(())
+}
+
 /// Judges solutions by a test file, which the arguments name, and prints what was found. The exit status is 6 if a solution did not pass
 /// all cases, and 1 if the test file has unknown lines, which are reported.
 #[inline(never)]
-pub fn test_of<'a, S: Shelf, D, C, R: Input, W: Output, E: Output>(
+pub fn test_of<'a, S: Shelf, D: Desk, C, R: Input, W: Output, E: Output>(
     given: &CommandArgs<'_, 'a>,
     host: &mut Host<S, D, C, R, W, E>,
 ) -> Result<u8, Refusal<'a>>
@@ -258,9 +371,11 @@ pub fn test_of<'a, S: Shelf, D, C, R: Input, W: Output, E: Output>(
     let arguments = given.arguments;
     let exam = TestArgs {
         format: format_in(arguments),
+        pages: arguments.text(&PAGES),
         want: arguments.file().unwrap_or("-"),
         solutions: after_want(arguments.files.as_slice()),
     };
+    refuse_pages(&exam, host)?;
     match text_in(exam.want, host) {
         Ok(want) => Ok(test_by(&exam, want.as_slice(), host)?),
         Err(ReadingFault::Memory) => Err(Refusal::Fault(RunFault::Memory)),
