@@ -37,9 +37,12 @@ use Rattle.a2_machine.proofs.Guarding.{any-taken}
 use Rattle.a2_machine.proofs.GuardedRuns.{next-keeps_code}
 use Rattle.a2_machine.proofs.Marking.{among-low}
 use Rattle.a2_run.specs.Started.{guard_of_run}
-use Rattle.a2_history.specs.declared.Typed.{Typed}
-use Rattle.a2_history.specs.Courses.{Course, typed, with_keys, with_logged, arrived, world_on, NoneStuck}
-use Rattle.a2_history.specs.Going.{Track, here, AlarmsAreComplete}
+use Rattle.a2_history.specs.declared.actions.Action.{Action}
+use Rattle.a2_history.specs.declared.actions.Action.TheVariants.{Keys, Change as Changed}
+use Rattle.a2_history.specs.declared.actions.Logged.{Logged}
+use Rattle.a2_history.specs.Courses.{Course, typed, with_keys, with_action, with_logged, arrived, world_on, NoneStuck}
+use Rattle.a2_history.specs.Going.{Track, here, shown_on, is_change, is_changed_after, NothingDoneAt, AlarmsAreComplete}
+use Rattle.a2_machine.specs.Looks.{shown_between}
 use Rattle.a2_symbols.specs.declared.places.Span.{Span}
 use Rattle.a2_debugger.specs.declared.stops.Watch.{Watch}
 use Rattle.a2_debugger.specs.declared.stops.Watch.TheVariants.{OfRegister, OfFlag, OfBytes}
@@ -51,6 +54,10 @@ use Rattle.a2_debugger.specs.Alerts.{Alerts, is_marked, is_in, is_watched, is_of
 or-true : (b : Bool) → (b || true) ≡ true
 or-true true = refl
 or-true false = refl
+
+or-false : (u v : Bool) → (u || v) ≡ false → (u ≡ false) × (v ≡ false)
+or-false false v e = (refl, e)
+or-false true v e = absurd (true≢false e)
 
 some≢none : {X : Type 0} (x : X) → Some x ≡ None → ⊥
 some≢none x e = true≢false (ap is_some e)
@@ -127,14 +134,39 @@ keys-byte keys w a = go (nat_le (length w.memory.devices.keys + length keys) 409
     go true = refl
     go false = refl
 
-logged-byte : (log : List Typed) (n : ℕ) (w : World) (a : ℕ) → ram_byte (with_logged log n w).memory a ≡ ram_byte w.memory a
+-- nor does anything that is no change
+action-byte : (action : Action) (w : World) (a : ℕ) → is_change action ≡ false → ram_byte (with_action action w).memory a ≡ ram_byte w.memory a
+action-byte (Keys keys) w a e = keys-byte keys w a
+action-byte (Changed change) w a e = absurd (true≢false e)
+
+-- nor does a log that has no change after an earlier position
+logged-byte : (log : List Logged) (p n : ℕ) (w : World) (a : ℕ) → p < n → is_changed_after p log ≡ false
+    → ram_byte (with_logged log n w).memory a ≡ ram_byte w.memory a
 unfolding with_logged
-logged-byte [] n w a = refl
-logged-byte (t ∷ ts) n w a = logged-byte ts n _ a ∙ one (t.position == n)
+logged-byte [] p n w a low none = refl
+logged-byte (t ∷ ts) p n w a low none = logged-byte ts p n _ a low parts.1 ∙ one (t.position == n) refl
   where
-    one : (b : Bool) → ram_byte (if b then with_keys t.keys w else w).memory a ≡ ram_byte w.memory a
-    one true = keys-byte t.keys w a
-    one false = refl
+    parts : ((nat_lt p t.position && is_change t.action) ≡ false) × (is_changed_after p ts ≡ false)
+    parts = or-false (nat_lt p t.position && is_change t.action) (is_changed_after p ts) none
+
+    after : (t.position == n) ≡ true → nat_lt p t.position ≡ true
+    after e = grind (arith, nat_tests, e, low)
+
+    none-here : (b : Bool) → b ≡ true → (b && is_change t.action) ≡ false → is_change t.action ≡ false
+    none-here true e is = is
+    none-here false e is = absurd (true≢false (sym e))
+
+    one : (b : Bool) → (t.position == n) ≡ b → ram_byte (if b then with_action t.action w else w).memory a ≡ ram_byte w.memory a
+    one true e = action-byte t.action w a (none-here (nat_lt p t.position) (after e) parts.0)
+    one false e = refl
+
+-- a world at a position where nothing is done by hand
+at-rest : (course : Course) (n : ℕ) → NothingDoneAt course n → world_on course n ≡ arrived course n
+unfolding world_on
+at-rest course n quiet = quiet (arrived course n)
+
+as-shown : (course : Course) (k : ℕ) → NothingDoneAt course (k + 1) → shown_between (world_on course k) (world_on course (k + 1)) ≡ shown_on course k
+as-shown course k quiet = ap (shown_between (world_on course k)) (at-rest course (k + 1) quiet)
 
 -- what is found where an instruction is fetched
 found-there : (guard : Guard) (w : World) (row : Row) (value : ℕ) → fetched (peek w.memory) w.registers.pc ≡ instruction row value
@@ -188,23 +220,23 @@ calm-next guard w row value none there free a away = go (found-there guard w row
         ∙ performed-stores memory_access ram_byte changed_by_writes row value w a away
 
 -- keys, and steps that store nothing into code, leave the code unchanged
-module _ (course : Course) (laid : ℕ → ℕ) where
-  holds-next : (n : ℕ) → HoldsCode (code_of course.origin).protected laid (world_on course n).memory
+module _ (course : Course) (laid : ℕ → ℕ) (from : ℕ) (none : is_changed_after from course.log ≡ false) where
+  holds-next : (n : ℕ) → from ≤ n → HoldsCode (code_of course.origin).protected laid (world_on course n).memory
       → stuck (code_of course.origin) (world_on course n) ≡ None → HoldsCode (code_of course.origin).protected laid (world_on course (suc n)).memory
   unfolding world_on arrived
-  holds-next n holds free = λ a among.
-      logged-byte course.log (suc n) (arrived course (suc n)) a
+  holds-next n later holds free = λ a among.
+      logged-byte course.log from (suc n) (arrived course (suc n)) a (omega (arith, later)) none
       ∙ next-keeps_code (code_of course.origin) laid (world_on course n) holds free a among
 
-  holds-on : (d from : ℕ) → HoldsCode (code_of course.origin).protected laid (world_on course from).memory → NoneStuck course (from + d)
+  holds-on : (d : ℕ) → HoldsCode (code_of course.origin).protected laid (world_on course from).memory → NoneStuck course (from + d)
       → HoldsCode (code_of course.origin).protected laid (world_on course (from + d)).memory
-  holds-on zero from holds went =
+  holds-on zero holds went =
       let e : from + 0 ≡ from = omega arith in
       subst (λ n. HoldsCode (code_of course.origin).protected laid (world_on course n).memory) (sym e) holds
-  holds-on (suc d) from holds went =
+  holds-on (suc d) holds went =
       let e : from + suc d ≡ suc (from + d) = omega arith in
       subst (λ n. HoldsCode (code_of course.origin).protected laid (world_on course n).memory) (sym e)
-      (holds-next (from + d) (holds-on d from holds (λ k l. went k (omega (arith, l)))) (went (from + d) (omega arith)))
+      (holds-next (from + d) (omega arith) (holds-on d holds (λ k l. went k (omega (arith, l)))) (went (from + d) (omega arith)))
 
 same-number : (a : ℕ) → (a == a) ≡ true
 same-number a = grind (arith, nat_tests)
@@ -239,10 +271,6 @@ and-false u v e is = sym (right u v is) ∙ e
 and-true : (u v : Bool) → (u && v) ≡ true → (u ≡ true) × (v ≡ true)
 and-true true v e = (refl, e)
 and-true false v e = absurd (true≢false (sym e))
-
-or-false : (u v : Bool) → (u || v) ≡ false → (u ≡ false) × (v ≡ false)
-or-false false v e = (refl, e)
-or-false true v e = absurd (true≢false e)
 
 -- an address that passes a test is not in a list in which none passes
 away-from : (test : ℕ → Bool) (a : ℕ) (xs : List ℕ) → list_any test xs ≡ false → test a ≡ true → IsNotIn a xs
@@ -285,9 +313,13 @@ same-peek : (v w : World) (a : ℕ) → ram_byte v.memory a ≡ ram_byte w.memor
 same-peek v w a e = ap (λ (b : ℕ). if nat_lt a ram_end then Some b else None) e
 
 -- a run that continues from a position, with its breakpoints, the watched spans, and the addresses marked for them
-module _ (free : Bool) (program : Assembled) (course : Course) (from : ℕ) (breaks : List Break) (watches : List Watch) (alerts : Alerts)
-    (guarded : course.origin.guard ≡ guard_of_run free program)
-    (are : AreAlerts free program.statements (world_on course from).memory breaks watches alerts) where
+module _ (may_change_code free : Bool) (program : Assembled) (course : Course) (from : ℕ) (breaks : List Break) (watches : List Watch)
+    (alerts : Alerts) (guarded : course.origin.guard ≡ guard_of_run free program)
+    (code : may_change_code ≡ (free || is_changed_after from course.log))
+    (are : AreAlerts may_change_code program.statements (world_on course from).memory breaks watches alerts) where
+  bound : may_change_code ≡ false → (free ≡ false) × (is_changed_after from course.log ≡ false)
+  bound e = or-false free (is_changed_after from course.log) (sym code ∙ e)
+
   code-is : free ≡ false → code_of course.origin ≡ bytes (Some (guard_of_program program))
   code-is e = ap bytes (guarded ∙ ap (λ b. guard_of_run b program) e)
 
@@ -295,16 +327,16 @@ module _ (free : Bool) (program : Assembled) (course : Course) (from : ℕ) (bre
   unfolding bytes guard_of_program
   code-among a low is = among-low ram_end (is_code program.statements) a low ∙ is
 
-  held : (k : ℕ) → from ≤ k → NoneStuck course (k + 1) → free ≡ false → (a : ℕ) → a < ram_end → IsTrue (is_code program.statements a)
+  held : (k : ℕ) → from ≤ k → NoneStuck course (k + 1) → may_change_code ≡ false → (a : ℕ) → a < ram_end → IsTrue (is_code program.statements a)
       → ram_byte (world_on course k).memory a ≡ ram_byte (world_on course from).memory a
   held k l went e a low is =
       let at : from + (k - from) ≡ k = omega (arith, l) in
       let h : HoldsCode (code_of course.origin).protected (λ b. ram_byte (world_on course from).memory b) (world_on course k).memory =
       subst (λ n. HoldsCode (code_of course.origin).protected (λ b. ram_byte (world_on course from).memory b) (world_on course n).memory) at
-      (holds-on course (λ b. ram_byte (world_on course from).memory b) (k - from) from (λ b _. refl) (λ j m. went j (omega (arith, m, l)))) in
-      h a (subst (λ (c : Code). IsTrue (is_among c.protected a)) (sym (code-is e)) (code-among a low is))
+      (holds-on course (λ b. ram_byte (world_on course from).memory b) from (bound e).1 (k - from) (λ b _. refl) (λ j m. went j (omega (arith, m, l)))) in
+      h a (subst (λ (c : Code). IsTrue (is_among c.protected a)) (sym (code-is (bound e).0)) (code-among a low is))
 
-  shown-held : (k : ℕ) → from ≤ k → NoneStuck course (k + 1) → free ≡ false → (s : Statement) → Contains program.statements s
+  shown-held : (k : ℕ) → from ≤ k → NoneStuck course (k + 1) → may_change_code ≡ false → (s : Statement) → Contains program.statements s
       → is_some s.instr ≡ true → (a : ℕ) → Holds s a → peek (world_on course k).memory a ≡ peek (world_on course from).memory a
   shown-held k l went e s among some a inside = go (nat_lt a ram_end) refl
     where
@@ -317,12 +349,12 @@ module _ (free : Bool) (program : Assembled) (course : Course) (from : ℕ) (bre
           (held k l went e a (grind (arith, nat_tests, is)) (code-held program.statements s a among some inside))
       go false is = ap (λ v. shown v (world_on course k)) is ∙ sym (ap (λ v. shown v (world_on course from)) is)
 
-  calm-step : (k : ℕ) → from ≤ k → NoneStuck course (k + 1) → free ≡ false
+  calm-step : (k : ℕ) → from ≤ k → NoneStuck course (k + 1) → NothingDoneAt course (k + 1) → may_change_code ≡ false
       → IsCalm watches program.statements (world_on course from).memory (world_on course k).registers.pc
       → (a : ℕ) → is_watched watches a ≡ true
       → ram_byte (world_on course (k + 1)).memory a ≡ ram_byte (world_on course k).memory a
   unfolding world_on arrived
-  calm-step k l went e calm a watched =
+  calm-step k l went quiet e calm a watched =
       let w : World = world_on course k in
       let s : Statement = calm.0 in
       let i : Instr = calm.3.harmless.instr in
@@ -340,10 +372,10 @@ module _ (free : Bool) (program : Assembled) (course : Course) (from : ℕ) (bre
       let away : IsNotIn a (stores_of memory_access found.0 i.value w) =
       away-from (is_watched watches) a _ (ap (list_any (is_watched watches)) stores ∙ calm.3.harmless.spares w) watched in
       let free : stuck (bytes (Some (guard_of_program program))) w ≡ None =
-      subst (λ (c : Code). stuck c w ≡ None) (code-is e) (went k (omega arith)) in
-      ap (λ n. ram_byte (world_on course n).memory a) at
-      ∙ logged-byte course.log (suc k) (arrived course (suc k)) a
-      ∙ ap (λ (c : Code). ram_byte (next c w).memory a) (code-is e)
+      subst (λ (c : Code). stuck c w ≡ None) (code-is (bound e).0) (went k (omega arith)) in
+      ap (λ (v : World). ram_byte v.memory a) (at-rest course (k + 1) quiet)
+      ∙ ap (λ n. ram_byte (arrived course n).memory a) at
+      ∙ ap (λ (c : Code). ram_byte (next c w).memory a) (code-is (bound e).0)
       ∙ calm-next (guard_of_program program) w found.0 i.value none there free a away
 
   -- a step that stores at no watched byte changes no watched byte, so it is not the first step to a stop
@@ -370,14 +402,14 @@ module _ (free : Bool) (program : Assembled) (course : Course) (from : ℕ) (bre
       later (inr l) = l
 
   pub warns : WarnsOfStops alerts breaks watches (record { course = course; position = from })
-  warns k l went seen calm = go (list_any (is_hit (moment_of (world_on course (k + 1)))) breaks) refl seen
+  warns k l went quiet seen calm = go (list_any (is_hit (moment_of (world_on course (k + 1)))) breaks) refl seen
     where
       pc : ℕ
       pc = (world_on course k).registers.pc
 
       off : ((is_marked alerts.stops (world_on course (k + 1)).registers.pc && list_any (is_hit (moment_of (world_on course (k + 1)))) breaks) ≡ false)
           × ((is_marked alerts.stores pc && list_any (is_changed_in (world_on course from) (world_on course (k + 1))) watches) ≡ false)
-      off = or-false _ _ calm
+      off = or-false _ _ (ap (alarms alerts breaks watches (world_on course from)) (as-shown course k quiet) ∙ calm)
 
       seen-before : (from < k) × (list_any (is_changed_in (world_on course from) (world_on course k)) watches ≡ true)
           → (from < k) × (is_stop breaks watches (world_on course from) (world_on course k) ≡ true)
@@ -385,11 +417,11 @@ module _ (free : Bool) (program : Assembled) (course : Course) (from : ℕ) (bre
           (was.0, ap (λ v. list_any (is_hit (moment_of (world_on course k))) breaks || v) was.1 ∙ or-true (list_any (is_hit (moment_of (world_on course k))) breaks))
 
       watched : list_any (is_changed_in (world_on course from) (world_on course (k + 1))) watches ≡ true
-          → (watches ≡ []) ⊎ ((free ≡ false) × (list_all is_of_bytes watches ≡ true) × IsCalm watches program.statements (world_on course from).memory pc)
+          → (watches ≡ []) ⊎ ((may_change_code ≡ false) × (list_all is_of_bytes watches ≡ true) × IsCalm watches program.statements (world_on course from).memory pc)
           → (from < k) × (is_stop breaks watches (world_on course from) (world_on course k) ≡ true)
       watched changed (inl none) =
           absurd (true≢false (sym changed ∙ ap (λ (ws : List Watch). list_any (is_changed_in (world_on course from) (world_on course (k + 1))) ws) none))
-      watched changed (inr is) = seen-before (was-changed k l is.1 (λ a among. calm-step k l went is.0 is.2 a among) changed)
+      watched changed (inr is) = seen-before (was-changed k l is.1 (λ a among. calm-step k l went quiet is.0 is.2 a among) changed)
 
       go : (b : Bool) → list_any (is_hit (moment_of (world_on course (k + 1)))) breaks ≡ b
           → (b || list_any (is_changed_in (world_on course from) (world_on course (k + 1))) watches) ≡ true
@@ -400,20 +432,23 @@ module _ (free : Bool) (program : Assembled) (course : Course) (from : ℕ) (bre
       go false e changed = watched changed (are.watched pc (and-false (is_marked alerts.stores pc) _ off.1 changed))
 
 -- the same holds from the current position on
-pub warned : (free : Bool) (program : Assembled) (track : Track) (before : World) (breaks : List Break) (watches : List Watch) (alerts : Alerts)
-    → before ≡ here track → track.course.origin.guard ≡ guard_of_run free program
-    → AreAlerts free program.statements before.memory breaks watches alerts → WarnsOfStops alerts breaks watches track
-warned free program track before breaks watches alerts is guarded are =
-    warns free program track.course track.position breaks watches alerts guarded
-    (subst (λ (w : World). AreAlerts free program.statements w.memory breaks watches alerts) is are)
+pub warned : (may_change_code free : Bool) (program : Assembled) (track : Track) (before : World) (breaks : List Break) (watches : List Watch)
+    (alerts : Alerts) → before ≡ here track → track.course.origin.guard ≡ guard_of_run free program
+    → may_change_code ≡ (free || is_changed_after track.position track.course.log)
+    → AreAlerts may_change_code program.statements before.memory breaks watches alerts → WarnsOfStops alerts breaks watches track
+warned may_change_code free program track before breaks watches alerts is guarded code are =
+    warns may_change_code free program track.course track.position breaks watches alerts guarded code
+    (subst (λ (w : World). AreAlerts may_change_code program.statements w.memory breaks watches alerts) is are)
 
 -- and up to the step where a routine returns
 pub warns-left : (s : ℕ) (alerts : Alerts) (breaks : List Break) (watches : List Watch) (track : Track) → WarnsOfStops alerts breaks watches track
     → AlarmsAreComplete (is_left s (is_stop breaks watches (here track))) (λ shown. nat_le s shown.look.next_s || alarms alerts breaks watches (here track) shown)
     track.course track.position
-warns-left s alerts breaks watches track stops k l went seen calm =
-    let off = or-false (nat_le s (world_on track.course (k + 1)).registers.s) _ calm in
-    let was = stops k l went (right (nat_le s (world_on track.course (k + 1)).registers.s) _ off.0 seen) off.1 in
+warns-left s alerts breaks watches track stops k l went quiet seen calm =
+    let off = or-false (nat_le s (arrived track.course (k + 1)).registers.s) _ calm in
+    let stays : nat_le s (world_on track.course (k + 1)).registers.s ≡ false =
+    ap (λ (w : World). nat_le s w.registers.s) (at-rest track.course (k + 1) quiet) ∙ off.0 in
+    let was = stops k l went quiet (right (nat_le s (world_on track.course (k + 1)).registers.s) _ stays seen) off.1 in
     (was.0, ap (λ v. nat_le s (world_on track.course k).registers.s || v) was.1 ∙ or-true (nat_le s (world_on track.course k).registers.s))
   where
     right : (u v : Bool) → u ≡ false → (u || v) ≡ true → v ≡ true
@@ -422,4 +457,5 @@ warns-left s alerts breaks watches track stops k l went seen calm =
 
 -- an address that no step reaches
 pub warns-at : (address : ℕ) (course : Course) (from : ℕ) → AlarmsAreComplete (is_at address) (λ shown. shown.look.next_pc == address) course from
-warns-at address course from k l went seen calm = absurd (true≢false (sym seen ∙ calm))
+warns-at address course from k l went quiet seen calm =
+    absurd (true≢false (sym seen ∙ ap (λ (w : World). w.registers.pc == address) (at-rest course (k + 1) quiet) ∙ calm))

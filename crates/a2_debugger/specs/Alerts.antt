@@ -83,11 +83,12 @@ abbrev pub MarksAllBut : List Watch → List Statement → Memory → List Bool 
 MarksAllBut watches statements memory marks =
     (address : ℕ) → is_marked marks address ≡ false → IsCalm watches statements memory address
 
--- the addresses of breakpoints are marked and, if something is watched, all addresses; if only bytes are, all except calm ones
-pub record AreAlerts (free : Bool) (statements : List Statement) (memory : Memory) (breaks : List Break) (watches : List Watch) (alerts : Alerts) : Type 0 where
+-- the addresses of breakpoints are marked and, if something is watched, all addresses; if only bytes are and code cannot change, all
+-- except calm ones
+pub record AreAlerts (may_change_code : Bool) (statements : List Statement) (memory : Memory) (breaks : List Break) (watches : List Watch) (alerts : Alerts) : Type 0 where
   pub breaks_marked : (moment : Moment) → list_any (is_hit moment) breaks ≡ true → is_marked alerts.stops moment.pc ≡ true
   pub watched : (address : ℕ) → is_marked alerts.stores address ≡ false
-      → (watches ≡ []) ⊎ ((free ≡ false) × (list_all is_of_bytes watches ≡ true) × IsCalm watches statements memory address)
+      → (watches ≡ []) ⊎ ((may_change_code ≡ false) × (list_all is_of_bytes watches ≡ true) × IsCalm watches statements memory address)
 
 -- the state that decides a stop, with RAM as a function of the address
 abbrev pub moment_of_declared : DeclaredMoment → Moment

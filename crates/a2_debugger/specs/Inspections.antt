@@ -7,7 +7,9 @@ use Rattle.a2_asm.specs.Assembled.{Assembled}
 use Rattle.a2_run.specs.Started.{IsStarted}
 use Rattle.a2_history.specs.declared.Halt.{Halt}
 use Rattle.a2_routines.specs.declared.routines.Entry.{Entry}
-use Rattle.a2_history.specs.Going.{Track, here, Advances, IsNewest, with_typed}
+use Rattle.a2_history.specs.Going.{Track, here, Advances, IsNewest, with_typed, with_changed}
+use Rattle.a2_history.specs.Courses.{with_change}
+use Rattle.a2_history.specs.declared.actions.Change.{Change}
 use Rattle.a2_routines.specs.Routines.{is_call}
 use Rattle.a2_history.specs.Routines.{entered, IsNewestOutside}
 use Rattle.a2_debugger.specs.Words.{IsVerb}
@@ -15,8 +17,10 @@ use Rattle.a2_debugger.specs.Sayings.{IsCommandOf, IsNoCommand}
 use Rattle.a2_debugger.specs.Stops.{is_stop, is_changed_in, is_same_watch}
 use Rattle.a2_debugger.specs.declared.inspector_command.InspectorCommand.{InspectorCommand}
 use Rattle.a2_debugger.specs.declared.inspector_command.Outcome.{Outcome}
-use Rattle.a2_debugger.specs.declared.inspector_command.Outcome.TheVariants.{Typed, KeysFull, Memory}
-use Rattle.a2_debugger.specs.declared.inspector_command.InspectorCommand.TheVariants.{Step, Next, Out, Back, GoBackOver, Go, Until, GoBack, Watch, Who, Break, Clear, ClearAt, Unwatch, TypeKeys}
+use Rattle.a2_debugger.specs.declared.inspector_command.Outcome.TheVariants.{Typed, KeysFull, Memory, Changed}
+use Rattle.a2_debugger.specs.declared.inspector_command.InspectorCommand.TheVariants.{Step, Next, Out, Back, GoBackOver, Go, Until, GoBack, Watch, Who, Break, Clear, ClearAt, Unwatch, TypeKeys, Set}
+use Rattle.a2_debugger.specs.Settings.{with_setting}
+use Rattle.a2_debugger.specs.declared.settings.Setting.{Setting}
 use Rattle.a2_debugger.specs.declared.stops.Break.{Break as Breakpoint}
 use Rattle.a2_debugger.specs.declared.stops.Watch.{Watch as Watched}
 use Rattle.a2_debugger.specs.declared.verbs.Verb.{Verb}
@@ -76,6 +80,24 @@ TypesBy outcome keys old new = ⊥
 abbrev pub Types : List ℕ → Track → Track → Type 0
 Types keys old new = (outcome : Outcome) × TypesBy outcome keys old new
 
+-- a change was made at the position, and what was done by hand later is forgotten
+abbrev pub with_change_made : Change → Track → Track
+with_change_made change track = record track { course = with_changed track.position change track.course }
+
+-- the outcome of a change: it was made; or memory ran out, and nothing changed
+abbrev pub ChangesBy : Outcome → Change → Track → Track → Type 0
+ChangesBy (Changed farthest) change old new = new ≡ with_change_made change old
+ChangesBy Memory change old new = new ≡ old
+ChangesBy outcome change old new = ⊥
+
+-- the outcome of setting something: that of a change that sets it
+abbrev pub SetsBy : Outcome → Setting → Track → Track → Type 0
+SetsBy outcome setting old new =
+    (change : Change) × (with_change change (here old) ≡ with_setting setting (here old)) × ChangesBy outcome change old new
+
+abbrev pub Sets : Setting → Track → Track → Type 0
+Sets setting old new = (outcome : Outcome) × SetsBy outcome setting old new
+
 -- if the next instruction is a JSR, steps were executed until its routine returned or up to a stop; otherwise one step was
 -- executed
 abbrev pub GoesOver : Bool → ℕ → (World → Bool) → ℕ → Track → Track → Type 0
@@ -124,6 +146,7 @@ Moves (Until address) stop most old new = GoesOn (is_at address) most old new
 Moves GoBack stop most old new = GoesBack stop old new
 Moves (Who watch) stop most old new = GoesBack (λ world. is_changed_in (here old) world watch) old new
 Moves (TypeKeys keys) stop most old new = Types keys old new
+Moves (Set setting) stop most old new = Sets setting old new
 Moves order stop most old new = new ≡ old
 
 -- the effect of a command on the breakpoints and on what is watched

@@ -6,11 +6,13 @@ use Rattle.a2_bus.specs.KeyText.{SpellsKeys}
 use Rattle.a2_asm.specs.Assembled.{Assembled}
 use Rattle.a2_symbols.specs.Places.{place_of}
 use Rattle.a2_debugger.specs.Conditions.{break_in, watch_of}
+use Rattle.a2_debugger.specs.Settings.{setting_in}
 use Rattle.a2_debugger.specs.declared.stops.Watch.{Watch as Watched}
 use Rattle.a2_debugger.specs.declared.inspector_command.InspectorCommand.{InspectorCommand}
 use Rattle.a2_debugger.specs.declared.inspector_command.InspectorCommand.TheVariants as order
+use Rattle.a2_debugger.specs.declared.settings.Setting.TheVariants.{Counter}
 use Rattle.a2_debugger.specs.declared.verbs.Verb.{Verb}
-use Rattle.a2_debugger.specs.declared.verbs.Verb.TheVariants.{Step, Next, Out, Back, Rnext, Go, Until, Rback, Watch, Who, Break, Clear, Unwatch, Keys, Where, Regs, Print, Mem, Screen, List as Lines, Info, Stack, Help}
+use Rattle.a2_debugger.specs.declared.verbs.Verb.TheVariants.{Step, Next, Out, Back, Rnext, Go, Until, Rback, Watch, Who, Break, Clear, Unwatch, Keys, Set, Goto, Where, Regs, Print, Mem, Screen, List as Lines, Info, Stack, Help}
 
 -- a number of steps: one word of decimal digits, at most 65,535; 1 if there is no word
 abbrev pub count_in : List (List ℕ) → Option ℕ
@@ -59,6 +61,8 @@ IsCommandOf program Clear rest order.Clear = words rest ≡ []
 IsCommandOf program Clear rest (order.ClearAt address) = place_in program (words rest) ≡ Some address
 IsCommandOf program Unwatch rest (order.Unwatch watch) = watch_in program (words rest) ≡ Some watch
 IsCommandOf program Keys rest (order.TypeKeys keys) = SpellsAfterBlank rest keys
+IsCommandOf program Set rest (order.Set setting) = setting_in program (words rest) ≡ Some setting
+IsCommandOf program Goto rest (order.Set setting) = (address : ℕ) × (setting ≡ Counter address) × (place_in program (words rest) ≡ Some address)
 IsCommandOf program Where rest (order.Show show) = Unit {0}
 IsCommandOf program Regs rest (order.Show show) = Unit {0}
 IsCommandOf program Print rest (order.Show show) = Unit {0}
@@ -86,4 +90,6 @@ IsNoCommand program Break rest = break_in program (words rest) ≡ None
 IsNoCommand program Clear rest = (words rest ≢ []) × (place_in program (words rest) ≡ None)
 IsNoCommand program Unwatch rest = watch_in program (words rest) ≡ None
 IsNoCommand program Keys rest = SpellsNoneAfterBlank rest
+IsNoCommand program Set rest = setting_in program (words rest) ≡ None
+IsNoCommand program Goto rest = place_in program (words rest) ≡ None
 IsNoCommand program verb rest = Unit {0}

@@ -2,7 +2,7 @@
 use Rattle.std.specs.Prelude.{◌≡◌, ◌⊎◌, ℕ, ◌<◌, List, [], length, map, codes}
 use Rattle.std.specs.Borrow.{Bor}
 use Rattle.a2_debugger.specs.declared.verbs.Verb.{Verb}
-use Rattle.a2_debugger.specs.declared.verbs.Verb.TheVariants.{Step, Next, Out, Back, Rnext, Go, Until, Rback, Watch, Who, Break, Clear, Unwatch, Keys, Where, Regs, Print, Mem, Screen, List as Lines, Info, Stack, Help}
+use Rattle.a2_debugger.specs.declared.verbs.Verb.TheVariants.{Step, Next, Out, Back, Rnext, Go, Until, Rback, Watch, Who, Break, Clear, Unwatch, Keys, Set, Goto, Where, Regs, Print, Mem, Screen, List as Lines, Info, Stack, Help}
 
 -- the full word of a verb, in capitals
 abbrev pub letters : Verb → List ℕ
@@ -20,6 +20,8 @@ letters Break = codes "BREAK"
 letters Clear = codes "CLEAR"
 letters Unwatch = codes "UNWATCH"
 letters Keys = codes "KEYS"
+letters Set = codes "SET"
+letters Goto = codes "GOTO"
 letters Where = codes "WHERE"
 letters Regs = codes "REGS"
 letters Print = codes "PRINT"

@@ -187,7 +187,7 @@ fn fill(marks: &mut [bool], mark: bool)
 // instructions that never do.
 fn mark_stores<A: Allocator + Copy>(
     marks: &mut [bool],
-    free: bool,
+    may_change_code: bool,
     statements: &[Statement],
     machine: &Machine<A>,
     watches: &[Watch],
@@ -195,11 +195,11 @@ fn mark_stores<A: Allocator + Copy>(
     requires { length marks.old ≡ 65536 }
     ensures { (address : ℕ) → is_marked marks.new address ≡ false
         → (watches.now ≡ [])
-        ⊎ ((free ≡ false) × (list_all alert.is_of_bytes watches.now ≡ true)
+        ⊎ ((may_change_code ≡ false) × (list_all alert.is_of_bytes watches.now ≡ true)
         × IsCalm watches.now statements.now (world_of_state machine.now.state).memory address) }
 {
     fill(marks, !watches.is_empty());
-    if !free && !watches.is_empty() && are_bytes(watches) {
+    if !may_change_code && !watches.is_empty() && are_bytes(watches) {
         calm_all(marks, statements, machine, watches);
     }
 }
@@ -245,22 +245,22 @@ impl<A: Allocator + Copy> Marks<A> {
 
 impl<A: Allocator + Copy> Marks<A> {
     /// Marks the addresses of breakpoints and, if something is watched, all addresses where a step may change it. If only bytes are
-    /// watched, the exceptions are instructions of a guarded program, as found in the machine's memory, that store nothing, or that
-    /// store only at a fixed operand address that is not watched.
+    /// watched and the program's code cannot change, the exceptions are its instructions, as found in the machine's memory, that store
+    /// nothing, or that store only at a fixed operand address that is not watched.
     pub fn set<C: Allocator + Copy>(
         &mut self,
-        free: bool,
+        may_change_code: bool,
         program: &Program<C>,
         machine: &Machine<C>,
         breaks: &[Break],
         watches: &[Watch],
     )
-        ensures { AreAlerts free program.now.statements (world_of_state machine.now.state).memory breaks.now watches.now self.new }
+        ensures { AreAlerts may_change_code program.now.statements (world_of_state machine.now.state).memory breaks.now watches.now self.new }
     {
         mark_stops(self.stops.as_mut_slice(), breaks);
         mark_stores(
             self.stores.as_mut_slice(),
-            free,
+            may_change_code,
             program.statements(),
             machine,
             watches,

@@ -34,6 +34,8 @@ break P      sets a breakpoint, or one with a condition:
 clear [P]    removes the breakpoint at P; without P, all that was set
 watch W      sets a watchpoint: stops if W changes
 unwatch W    removes a watchpoint
+set W = N    sets a register, a flag or a byte; set PC = P sets PC
+goto P       sets PC: the run continues at P
 keys TEXT    types keys: \\r \\b \\f \\x \\\\ as in --keys
 where        shows the place and the routines entered   w
 regs         shows the registers
@@ -87,6 +89,10 @@ pub struct RunReport<'a, A: Allocator> {
     /// The greatest number of steps that a command executes while it looks for a place.
     pub most: u32,
     pub detail: Detail,
+    /// Whether something was set by hand at the current position.
+    pub set_here: bool,
+    /// Whether something was set by hand after the next step.
+    pub set_next: bool,
 }
 
 /// An answer, assembled before it is written. If memory runs out for a part, this is noted and reported instead of the answer.
@@ -182,6 +188,28 @@ fn put_stop<A: Allocator + Copy>(stand: &RunReport<A>, sheet: &mut Sheet<A>) {
     }
     if matches!(stand.detail, Detail::Full) {
         put_lines(stand, stand.machine.regs().pc, LINES_AT_STOP, sheet);
+    }
+}
+
+// Prints that something was set by hand here or after the next step, if so.
+fn put_settings<A: Allocator + Copy>(stand: &RunReport<A>, sheet: &mut Sheet<A>) {
+    if stand.set_here {
+        sheet.put(b"note: you set something at this step\n");
+    }
+    if stand.set_next {
+        sheet.put(b"note: you set something after the next step\n");
+    }
+}
+
+// Prints which steps are forgotten because something was set before them, if any are.
+fn put_dropped<A: Allocator + Copy>(stand: &RunReport<A>, farthest: u64, sheet: &mut Sheet<A>) {
+    if farthest > stand.machine.steps() {
+        let last = decimal(farthest);
+        sheet.put_all(&[
+            b"dropped: what followed, up to step ",
+            last.as_slice(),
+            b"\n",
+        ]);
     }
 }
 
@@ -555,7 +583,11 @@ const TAKES_STEPS: &[u8] = b" takes a number of steps, 0 to 65535\n";
 const NEEDS_WATCH: &[u8] =
     b" needs a register (A X Y S P), a flag (N V D I Z C), one place, or two such as $300..$30F, the lower first, at most 256 bytes\n";
 
-// What `until`, `list` and `clear` need, after their name.
+// What `set` needs.
+const NEEDS_VALUE: &[u8] =
+    b"set needs a register (A X Y S P), a flag (N V D I Z C) or a place below $C000, then = and a number: 0 to 255, for a flag 0 or 1; or PC = and a place\n";
+
+// What `until`, `list`, `clear` and `goto` need, after their name.
 const NEEDS_PLACE: &[u8] =
     b" needs a place: a name of the source, a line with an instruction such as 12:, or an address such as $300\n";
 
@@ -579,6 +611,8 @@ fn put_form<A: Allocator + Copy>(verb: Verb, sheet: &mut Sheet<A>) {
         Verb::Print => sheet.put(
             b"print needs a register (A X Y S P PC), a flag (N V D I Z C) or a place\n",
         ),
+        Verb::Set => sheet.put(NEEDS_VALUE),
+        Verb::Goto => sheet.put_all(&[b"goto", NEEDS_PLACE]),
         Verb::Keys => {
             sheet.put(b"keys needs the keys to type: blank to ~, and \\r \\b \\f \\x \\\\\n")
         }
@@ -605,13 +639,22 @@ fn sentence_of(outcome: Outcome) -> &'static [u8] {
 // Prints the answer.
 fn put_answer<A: Allocator + Copy>(stand: &RunReport<A>, outcome: Outcome, sheet: &mut Sheet<A>) {
     match outcome {
-        Outcome::Moved => put_stop(stand, sheet),
+        Outcome::Moved => {
+            put_stop(stand, sheet);
+            put_settings(stand, sheet);
+        }
+        Outcome::Changed(farthest) => {
+            put_stop(stand, sheet);
+            put_dropped(stand, farthest, sheet);
+        }
         Outcome::Seen => {
             put_stop(stand, sheet);
+            put_settings(stand, sheet);
             put_reason(stand, b" changed", sheet);
         }
         Outcome::SeenEarlier => {
             put_stop(stand, sheet);
+            put_settings(stand, sheet);
             put_reason(stand, b" is about to change", sheet);
         }
         Outcome::Stopped(cause) => {

@@ -1,9 +1,9 @@
 //! A run of a source, controlled by the commands of a debugger.
 
-ghost use Rattle.std.specs.Prelude.{◌≡◌, ◌==◌, ◌&&◌, ◌⊎◌, ◌-◌, ℕ, List, false, IfOk, IfErr};
+ghost use Rattle.std.specs.Prelude.{◌≡◌, ◌==◌, ◌&&◌, ◌||◌, ◌⊎◌, ◌-◌, ℕ, List, false, IfOk, IfErr};
 ghost use Rattle.a2_stream.specs.Stream.{SendsOrBreaks};
 ghost use Rattle.a2_machine.specs.State.{world_of_state};
-ghost use Rattle.a2_history.specs.Going.{here, AlarmsAreComplete};
+ghost use Rattle.a2_history.specs.Going.{here, AlarmsAreComplete, is_changed_after};
 ghost use Rattle.a2_history.specs.Routines.{entered};
 ghost use Rattle.a2_routines.specs.Routines.{is_call as is_call_of};
 ghost use Rattle.a2_run.specs.Started.{guard_of_run};
@@ -21,6 +21,8 @@ ghost use Rattle.a2_debugger.specs.Inspections.{
   GoesBack,
   GoesBackOver,
   TypesBy,
+  ChangesBy,
+  SetsBy,
   is_left,
   innermost,
   others,
@@ -38,12 +40,15 @@ use crate::answer_sheet::{Detail, RunReport, report};
 use crate::changes::put_changed_rows;
 use crate::inspector_command::{InspectorCommand, Outcome, Show};
 use crate::reading::order_of;
+use crate::settings::{Setting, change_of};
 use crate::sights::{Alarm, At, Changed, Left, Stops};
 use crate::stops::{Break, Watch, is_same_watch};
 use crate::verbs::verb_of;
 use a2_asm::Program;
 use a2_bus::Keys;
-use a2_history::{Entry, Halt, History, Lookout, Nothing, SearchTarget, TypingFault, is_call};
+use a2_history::{
+    Change, Entry, Halt, History, Lookout, Nothing, SearchTarget, TypingFault, is_call,
+};
 use a2_machine::{Cause, Machine};
 use a2_run::{AssembledText, RunArgs, started};
 use a2_stream::{Output, WriteFault};
@@ -90,6 +95,8 @@ pub struct Inspector<'a, A: Allocator = Global> {
     most: u32,
     // What a stop reports.
     detail: Detail,
+    // The farthest position that was reached since keys were typed or something was set.
+    farthest: u64,
 }
 
 // Not derived, only for the prover: it treats this as one call, and a derived `drop` field by field.
@@ -108,6 +115,7 @@ impl<'a, A: Allocator> Drop for Inspector<'a, A> {
             last: _,
             most: _,
             detail: _,
+            farthest: _,
         } = self;
     }
 }
@@ -187,6 +195,13 @@ fn note<A: Allocator + Copy>(before: &mut Machine<A>, history: &History<A>)
     before.copy_from(history.machine());
 }
 
+// Whether code may change: the run is free of the guard, or something is changed by hand later.
+fn may_change_code<A: Allocator + Copy>(free: bool, history: &History<A>) -> bool
+    ensures { result ≡ (free || is_changed_after history.now.position history.now.course.log) }
+{
+    free || history.is_changed_ahead()
+}
+
 // Marks the steps that need a check for one of these stops as the run continues.
 fn mark<A: Allocator + Copy>(
     marks: &mut Marks<A>,
@@ -199,7 +214,13 @@ fn mark<A: Allocator + Copy>(
     requires guard { history.now.course.origin.guard ≡ guard_of_run free program.now }
     ensures { WarnsOfStops marks.new stops.entry.breaks.now stops.entry.watches.now history.now }
 {
-    marks.set(free, program, stops.before, stops.breaks, stops.watches);
+    marks.set(
+        may_change_code(free, history),
+        program,
+        stops.before,
+        stops.breaks,
+        stops.watches,
+    );
 }
 
 // Executes at most this many steps, up to a stop.
@@ -345,6 +366,32 @@ fn type_keys<A: Allocator + Copy>(history: &mut History<A>, keys: Keys) -> Outco
     }
 }
 
+// Makes a change at the current position.
+fn make_change<A: Allocator + Copy>(
+    history: &mut History<A>,
+    change: Change,
+    farthest: u64,
+) -> Outcome
+    ensures { ChangesBy result change history.old history.new }
+{
+    match history.change(change) {
+        Ok(()) => Outcome::Changed(farthest),
+        Err(_) => Outcome::Memory,
+    }
+}
+
+// Sets a register, a flag, PC or a byte at the current position.
+fn set_value<A: Allocator + Copy>(
+    history: &mut History<A>,
+    setting: Setting,
+    farthest: u64,
+) -> Outcome
+    ensures { SetsBy result setting history.old history.new }
+{
+    let change = change_of(setting, history.machine());
+    make_change(history, change, farthest)
+}
+
 // Removes the breakpoint at an address.
 fn clear_at(breaks: &mut Breaks, address: u16)
     ensures { breaks.new.items ≡ others address breaks.old.items }
@@ -436,6 +483,7 @@ impl<'a, A: Allocator + Copy> Inspector<'a, A> {
             last: Line::new(),
             most: limit,
             detail: Detail::Full,
+            farthest: 0,
         })
     }
 
@@ -443,7 +491,19 @@ impl<'a, A: Allocator + Copy> Inspector<'a, A> {
     pub fn execute_command(&mut self, order: InspectorCommand) -> Outcome
         ensures { IsDone order self.old self.new }
     {
+        let outcome = self.obey(order);
+        if matches!(outcome, Outcome::Changed(_) | Outcome::Typed) {
+            self.farthest = self.history.position();
+        }
+        outcome
+    }
+
+    // Executes a command.
+    fn obey(&mut self, order: InspectorCommand) -> Outcome
+        ensures { IsDone order self.old self.new }
+    {
         note(&mut self.before, &self.history);
+        self.farthest = self.farthest.max(self.history.position());
         let stops = Stops {
             breaks: self.breaks.as_slice(),
             watches: self.watches.as_slice(),
@@ -485,6 +545,9 @@ impl<'a, A: Allocator + Copy> Inspector<'a, A> {
                 Outcome::Shown(Show::Stops)
             }
             InspectorCommand::TypeKeys(keys) => type_keys(&mut self.history, keys),
+            InspectorCommand::Set(setting) => {
+                set_value(&mut self.history, setting, self.farthest)
+            }
             InspectorCommand::Show(show) => Outcome::Shown(show),
         }
     }
@@ -551,6 +614,8 @@ impl<A: Allocator + Copy> Inspector<'_, A> {
             entries: entries.as_slice(),
             most: self.most,
             detail,
+            set_here: self.history.is_changed_at(self.history.position()),
+            set_next: self.history.is_changed_at(self.history.position() + 1),
         };
         report(self.alloc, &stand, outcome, writer)
     }

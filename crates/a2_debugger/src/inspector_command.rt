@@ -1,5 +1,6 @@
 //! The commands that a line can hold.
 
+use crate::settings::Setting;
 use crate::stops::{Break, Flag, Register, Watch};
 use crate::verbs::Verb;
 use a2_bus::Keys;
@@ -69,6 +70,8 @@ pub enum InspectorCommand {
     ClearAt(u16),
     /// Type keys.
     TypeKeys(Keys),
+    /// Set a register, a flag, PC or a byte, and forget what came later.
+    Set(Setting),
     /// Show something.
     Show(Show),
 }
@@ -106,6 +109,8 @@ pub enum Outcome {
     Typed,
     /// The keys were not typed: too many would be waiting.
     KeysFull,
+    /// This was set. The farthest position reached before was this one.
+    Changed(u64),
     /// Nothing was done, because memory ran out.
     Memory,
     /// This is to be shown.

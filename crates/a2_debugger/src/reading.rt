@@ -6,8 +6,9 @@ ghost use Rattle.a2_text.specs.Words.{words};
 ghost use Rattle.a2_debugger.specs.Sayings.{IsCommandOf, IsNoCommand, count_in as count_of, place_in as place_of_words};
 ghost use Rattle.a2_debugger.specs.Sayings.{watch_in as watch_of_words, SpellsAfterBlank, SpellsNoneAfterBlank};
 
-use crate::conditions::{break_in, subject_of, watch_of};
+use crate::conditions::{break_in, setting_in, subject_of, watch_of};
 use crate::inspector_command::{InspectorCommand, Show};
+use crate::settings::Setting;
 use crate::stops::{Subject, Watch};
 use crate::verbs::Verb;
 use a2_asm::Program;
@@ -120,6 +121,8 @@ pub fn order_of<A: Allocator + Copy>(
         Verb::Who => Some(InspectorCommand::Who(watch_in(program, rest)?)),
         Verb::Break => Some(InspectorCommand::Break(break_in(program, rest)?)),
         Verb::Keys => Some(InspectorCommand::TypeKeys(keys_in(rest)?)),
+        Verb::Set => Some(InspectorCommand::Set(setting_in(program, rest)?)),
+        Verb::Goto => Some(InspectorCommand::Set(Setting::Counter(place_in(program, rest)?))),
         Verb::Print => Some(InspectorCommand::Show(value_in(program, rest)?)),
         Verb::Mem => Some(InspectorCommand::Show(bytes_in(program, rest)?)),
         Verb::Next => alone(InspectorCommand::Next, rest),

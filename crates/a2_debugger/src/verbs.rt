@@ -23,6 +23,8 @@ pub enum Verb {
     Clear,
     Unwatch,
     Keys,
+    Set,
+    Goto,
     Where,
     Regs,
     Print,
@@ -41,7 +43,7 @@ const LONGEST: usize = 7;
 type Row = (&'static [u8], Verb);
 
 // The full words of the verbs, followed by the letters that abbreviate some of them.
-static WORDS: [Row; 36] = [
+static WORDS: [Row; 38] = [
     (b"STEP", Verb::Step),
     (b"NEXT", Verb::Next),
     (b"OUT", Verb::Out),
@@ -56,6 +58,8 @@ static WORDS: [Row; 36] = [
     (b"CLEAR", Verb::Clear),
     (b"UNWATCH", Verb::Unwatch),
     (b"KEYS", Verb::Keys),
+    (b"SET", Verb::Set),
+    (b"GOTO", Verb::Goto),
     (b"WHERE", Verb::Where),
     (b"REGS", Verb::Regs),
     (b"PRINT", Verb::Print),

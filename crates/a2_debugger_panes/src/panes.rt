@@ -77,12 +77,13 @@ fn is_panes(line: &[u8]) -> bool
     }
 }
 
-// Whether a command shows, watches or asks about bytes of memory.
+// Whether a command shows, watches, sets or asks about bytes of memory.
 fn is_memory_command(word: &[u8]) -> bool {
     word.eq_ignore_ascii_case(b"MEM")
         || word.eq_ignore_ascii_case(b"X")
         || word.eq_ignore_ascii_case(b"WHO")
         || word.eq_ignore_ascii_case(b"WATCH")
+        || word.eq_ignore_ascii_case(b"SET")
 }
 
 // The address of memory in a line, if its command is about memory.

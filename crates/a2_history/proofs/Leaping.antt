@@ -2,7 +2,6 @@
 use Rattle.std.specs.Prelude.{IfNone, IfSome, ◌==◌, ◌||◌, nat_le, length, if◌then◌else◌}
 use Rattle.std.proofs.Common.{◌≡◌, ◌⊎◌, inl, inr, ℕ, zero, suc, ◌+◌, ◌-◌, ◌<◌, ◌≤◌, Bool, true, false, true≢false, List, [], ◌∷◌, drop, Option, Some, None, refl, sym, ap, ap₂, ◌∙◌, arith}
 use Rattle.std.proofs.lemmas.Bool.{ne_eqb, cond-false}
-use Rattle.a2_bus.specs.Memory.{ram_byte}
 use Rattle.a2_burst.specs.Shown.{Shown}
 use Rattle.a2_services.specs.World.{World}
 use Rattle.a2_machine.specs.declared.causes.Cause.{Cause}
@@ -12,43 +11,25 @@ use Rattle.a2_machine.specs.Meaning.{Code, stuck, next, world_at}
 use Rattle.a2_machine.specs.State.{Device, world_of_state, code_of}
 use Rattle.a2_history.specs.declared.Halt.{Halt}
 use Rattle.a2_history.specs.declared.Halt.TheVariants.{Seen, Stopped}
-use Rattle.a2_history.specs.declared.Typed.{Typed}
+use Rattle.a2_history.specs.declared.actions.Logged.{Logged}
 use Rattle.a2_history.specs.declared.lookout.Watcher.{Watcher}
-use Rattle.a2_history.specs.Courses.{Course, typed, with_keys, with_logged, arrived, world_on, NoneStuck}
+use Rattle.a2_history.specs.Courses.{Course, with_action, with_logged, arrived, world_on, NoneStuck}
 use Rattle.a2_history.specs.Going.{IsOn, shown_on, AlarmsAreComplete}
 use Rattle.a2_history.specs.Gone.{HasRunTo}
 use Rattle.a2_history.specs.Bursts.{IsBurst, IsQuiet}
-use Rattle.a2_history.specs.Typing.{IsTypedBy}
+use Rattle.a2_history.specs.Acting.{IsActedBy}
 use Rattle.a2_history.proofs.Ways.{none-some}
 
 both_false : (u v : Bool) → (u || v) ≡ false → (u ≡ false) × (v ≡ false)
 both_false false v e = (refl, e)
 both_false true v e = absurd (true≢false e)
 
--- an entry of a log that was typed elsewhere
-pub quiet-next : (log : List Typed) (i : ℕ) (t : Typed) (k : ℕ) (w : World) → drop i log ≡ t ∷ drop (i + 1) log → (t.position ≡ k → ⊥)
+-- an entry of a log for another position
+pub quiet-next : (log : List Logged) (i : ℕ) (t : Logged) (k : ℕ) (w : World) → drop i log ≡ t ∷ drop (i + 1) log → (t.position ≡ k → ⊥)
     → with_logged (drop i log) k w ≡ with_logged (drop (i + 1) log) k w
 unfolding with_logged
 quiet-next log i t k w split ne =
     ap (λ xs. with_logged xs k w) split ∙ ap (λ v. with_logged (drop (i + 1) log) k v) (cond-false _ _ _ (ne_eqb t.position k ne))
-
--- Keys change nothing that an observer is shown.
-keys-shown : (keys : List ℕ) (v w : World) → shown_between v (with_keys keys w) ≡ shown_between v w
-unfolding with_keys ram_byte
-keys-shown keys v w = go (nat_le (length w.memory.devices.keys + length keys) 4096)
-  where
-    go : (b : Bool) → shown_between v (if b then typed keys w else w) ≡ shown_between v w
-    go true = refl
-    go false = refl
-
-logged-shown : (log : List Typed) (n : ℕ) (v w : World) → shown_between v (with_logged log n w) ≡ shown_between v w
-unfolding with_logged
-logged-shown [] n v w = refl
-logged-shown (t ∷ ts) n v w = logged-shown ts n v _ ∙ one (t.position == n)
-  where
-    one : (b : Bool) → shown_between v (if b then with_keys t.keys w else w) ≡ shown_between v w
-    one true = keys-shown t.keys v w
-    one false = refl
 
 -- Observers that are shown the same become the same.
 shown-alike : {O : Type 0} (seen : O → Shown → O) (f g : ℕ → Shown) (o : O) (n : ℕ) → ((k : ℕ) → k < n → f k ≡ g k)
@@ -57,10 +38,10 @@ unfolding observer_after
 shown-alike seen f g o zero same = refl
 shown-alike seen f g o (suc n) same = ap₂ seen (shown-alike seen f g o n (λ k l. same k (omega (arith, l)))) (same n (omega arith))
 
--- a burst along a run with no keys typed during it, followed by the keys that were typed at its end
+-- a burst along a run with nothing done by hand during it, followed by what was done at its end
 module _ (course : Course) (most to : ℕ) (old mid new : Device) (on : IsOn course old.state) (guarded : old.state.guard ≡ course.origin.guard)
     (made : IsBurst most old mid) (quiet : IsQuiet course.log old.state.steps to) (low : old.state.steps + most ≤ to)
-    (typed_by : IsTypedBy course.log mid.state new.state) where
+    (acted_by : IsActedBy course.log mid.state new.state) where
   abbrev pub start : World
   start = world_of_state old.state
 
@@ -93,8 +74,8 @@ module _ (course : Course) (most to : ℕ) (old mid new : Device) (on : IsOn cou
   pub burst-on : IsOn course new.state
   unfolding world_on
   burst-on = record {
-    world = typed_by.world ∙ ap (with_logged course.log mid.state.steps) (sym at-end) ∙ ap (world_on course) (sym typed_by.steps);
-    went = λ j l. go j (omega (arith, l, typed_by.steps)) (split j);
+    world = acted_by.world ∙ ap (with_logged course.log mid.state.steps) (sym at-end) ∙ ap (world_on course) (sym acted_by.steps);
+    went = λ j l. go j (omega (arith, l, acted_by.steps)) (split j);
   }
     where
       split : (j : ℕ) → (j < old.state.steps) ⊎ (old.state.steps ≤ j)
@@ -109,17 +90,18 @@ module _ (course : Course) (most to : ℕ) (old mid new : Device) (on : IsOn cou
           ∙ made.going (j - old.state.steps) (omega (arith, a, l))
 
   shown-along : (k : ℕ) → k < count → shown_at (code_of old.state) start k ≡ shown_on course (old.state.steps + k)
-  unfolding world_on
   shown-along k l =
       let e : suc (old.state.steps + k) ≡ old.state.steps + k + 1 = omega arith in
       ap₂ shown_between (sym (along k l)) (sym (arrives k l))
-      ∙ sym (logged-shown course.log (suc (old.state.steps + k)) (world_on course (old.state.steps + k)) (arrived course (suc (old.state.steps + k))))
-      ∙ ap (λ n. shown_between (world_on course (old.state.steps + k)) (world_on course n)) e
+      ∙ ap (λ n. shown_between (world_on course (old.state.steps + k)) (arrived course n)) e
+
+  pub burst-quiet : IsQuiet course.log old.state.steps new.state.steps
+  burst-quiet = λ k l m w. quiet k l (omega (arith, m, low, made.most_made, acted_by.steps)) w
 
   pub burst-shown : {O : Type 0} (seen : O → Shown → O) (before after : O) → after ≡ observer_after seen (shown_at (code_of old.state) start) before count
       → after ≡ observer_after seen (λ k. shown_on course (old.state.steps + k)) before (new.state.steps - old.state.steps)
   burst-shown seen before after is =
-      let e : count ≡ new.state.steps - old.state.steps = omega (arith, typed_by.steps) in
+      let e : count ≡ new.state.steps - old.state.steps = omega (arith, acted_by.steps) in
       is ∙ shown-alike seen (shown_at (code_of old.state) start) (λ k. shown_on course (old.state.steps + k)) before count shown-along
       ∙ ap (observer_after seen (λ k. shown_on course (old.state.steps + k)) before) e
 
@@ -166,13 +148,13 @@ module _ {L : Type 0} (alarms_by : L → Shown → Bool) where
       (λ o shown same. (same, ap (λ l. o.is_alarmed || alarms_by l shown) same)) f before n refl
       (sym (ap (λ (o : Watcher L). o.is_alarmed) is) ∙ not)
 
--- If no step raises an alarm, nothing is seen.
+-- If no step raises an alarm and nothing was done by hand in between, nothing is seen before the end.
 pub unseen : (seen : World → Bool) (alarms : Shown → Bool) (course : Course) (start from to : ℕ) → AlarmsAreComplete seen alarms course start → start ≤ from
-    → ((k : ℕ) → start < k → k ≤ from → seen (world_on course k) ≡ false) → NoneStuck course to
-    → ((k : ℕ) → k < to - from → alarms (shown_on course (from + k)) ≡ false) → (k : ℕ) → start < k → k ≤ to → seen (world_on course k) ≡ false
-unseen seen alarms course start from to warns high before went calm zero l m = absurd (omega (arith, l))
-unseen seen alarms course start from to warns high before went calm (suc k) l m =
-    go (λ a. unseen seen alarms course start from to warns high before went calm k a (omega (arith, m))) (split (suc k))
+    → ((k : ℕ) → start < k → k ≤ from → seen (world_on course k) ≡ false) → NoneStuck course to → IsQuiet course.log from to
+    → ((k : ℕ) → k < to - from → alarms (shown_on course (from + k)) ≡ false) → (k : ℕ) → start < k → k < to → seen (world_on course k) ≡ false
+unseen seen alarms course start from to warns high before went quiet calm zero l m = absurd (omega (arith, l))
+unseen seen alarms course start from to warns high before went quiet calm (suc k) l m =
+    go (λ a. unseen seen alarms course start from to warns high before went quiet calm k a (omega (arith, m))) (split (suc k))
   where
     split : (j : ℕ) → (j ≤ from) ⊎ (from < j)
     split j = grind arith
@@ -186,13 +168,26 @@ unseen seen alarms course start from to warns high before went calm (suc k) l m 
     told earlier a true is =
         let e : from + (k - from) ≡ k = omega (arith, a) in
         let new : (start < k) × (seen (world_on course k) ≡ true) =
-        warns k (omega (arith, a, high)) (λ j b. went j (omega (arith, b, m))) is
+        warns k (omega (arith, a, high)) (λ j b. went j (omega (arith, b, m)))
+        (λ w. quiet (k + 1) (omega (arith, a)) (omega (arith, m)) w) is
         (ap (λ n. alarms (shown_on course n)) (sym e) ∙ calm (k - from) (omega (arith, a, m))) in
         absurd (true≢false (sym new.1 ∙ earlier new.0))
 
     go : (start < k → seen (world_on course k) ≡ false) → (suc k ≤ from) ⊎ (from < suc k) → seen (world_on course (suc k)) ≡ false
     go earlier (inl a) = before (suc k) l a
     go earlier (inr a) = told earlier a (seen (world_on course (k + 1))) refl
+
+-- If nothing is seen at the end either, nothing is seen up to the end.
+pub unseen-end : (seen : World → Bool) (course : Course) (start to : ℕ) → ((k : ℕ) → start < k → k < to → seen (world_on course k) ≡ false)
+    → seen (world_on course to) ≡ false → (k : ℕ) → start < k → k ≤ to → seen (world_on course k) ≡ false
+unseen-end seen course start to before last k l m = go (split k m)
+  where
+    split : (k : ℕ) → k ≤ to → (k < to) ⊎ (k ≡ to)
+    split k m = grind (arith, m)
+
+    go : (k < to) ⊎ (k ≡ to) → seen (world_on course k) ≡ false
+    go (inl a) = before k l a
+    go (inr e) = ap (λ n. seen (world_on course n)) e ∙ last
 
 -- steps that were run one by one up to a position within an end
 pub gone-further : (seen : World → Bool) (course : Course) (from to end here : ℕ) (halt : Halt) → to ≤ end → HasRunTo seen course from to here (Some halt)

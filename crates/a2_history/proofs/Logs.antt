@@ -1,15 +1,23 @@
--- Keys that are typed, and keys from a log.
-use Rattle.std.specs.Prelude.{Result, Ok, Err, IsOk, OnOk, OnErr, ◌↔◌}
+-- What is done by hand, and what a log holds.
+use Rattle.std.specs.Prelude.{Result, Ok, Err, IsOk, OnOk, OnErr, ◌↔◌, nat_lt}
 use Rattle.std.proofs.Common.{◌≡◌, ℕ, ◌+◌, ◌<◌, ◌≤◌, Bool, true, false, true≢false, List, [], ◌∷◌, ◌++◌, length, drop, refl, sym, ap, ◌∙◌, arith, cond, eqb, leb}
-use Rattle.std.proofs.lemmas.Bool.{eq-eqb, ne_eqb, le-leb, leb-true, leb-false, cond-false, cond-true}
+use Rattle.std.proofs.lemmas.Bool.Decides.{nat_tests}
+use Rattle.std.proofs.lemmas.Bool.{lt-ltb, eq-eqb, ne_eqb, le-leb, leb-true, leb-false, cond-false, cond-true}
 use Rattle.a2_bus.specs.Devices.{keys_typed}
+use Rattle.a2_bus.specs.Memory.{Memory, ram_end, with_ram}
 use Rattle.a2_bus.specs.View.{memory_of}
+use Rattle.a2_effect.specs.declared.Regs.{Regs}
+use Rattle.a2_effect.specs.Registers.{Registers as Values}
+use Rattle.a2_effect.specs.View.{registers_of}
 use Rattle.a2_services.specs.World.{World}
 use Rattle.a2_machine.specs.State.{MachineState, Device, world_of_state}
-use Rattle.a2_history.specs.declared.Typed.{Typed}
-use Rattle.a2_history.specs.Courses.{Course, typed, with_keys, with_logged}
-use Rattle.a2_history.specs.Going.{up_to, with_typed}
-use Rattle.a2_history.specs.Typing.{IsTyped, IsTypedBy}
+use Rattle.a2_history.specs.declared.actions.Action.{Action}
+use Rattle.a2_history.specs.declared.actions.Change.TheVariants.{Registers, Byte}
+use Rattle.a2_history.specs.declared.actions.Action.TheVariants.{Keys, Change as Changed}
+use Rattle.a2_history.specs.declared.actions.Logged.{Logged}
+use Rattle.a2_history.specs.Courses.{Course, typed, with_keys, with_action, with_logged}
+use Rattle.a2_history.specs.Going.{up_to, with_done}
+use Rattle.a2_history.specs.Acting.{IsActed, IsActedBy}
 
 abbrev pub after_keys : Device → List ℕ → Device
 after_keys old keys =
@@ -35,7 +43,7 @@ not-fitting keys w full = go (leb (length w.memory.devices.keys + length keys) 4
 
 pub typed-is : {X E : Type 0} (old new : Device) (keys : List ℕ) (r : Result X E)
     → (IsOk r ↔ (length old.state.bus.devices.keys + length keys ≤ 4096)) → OnOk r (new ≡ after_keys old keys) → OnErr r (new ≡ old)
-    → IsTyped keys old.state new.state
+    → IsActed (Keys keys) old.state new.state
 unfolding memory_of
 typed-is old new keys (Ok x) fits ok err = record {
   world = ap (λ (d : Device). world_of_state d.state) ok ∙ typed-holds old keys ∙ sym (fitting keys (world_of_state old.state) (fits.0 refl));
@@ -48,17 +56,52 @@ typed-is old new keys (Err e) fits ok err = record {
   guard = ap (λ (d : Device). d.state.guard) err;
 }
 
--- one entry of a log
-pub typed-here : (t : Typed) (old new : MachineState) → t.position ≡ old.steps → IsTyped t.keys old new → IsTypedBy (t ∷ []) old new
-unfolding with_logged
-typed-here t old new e is = record { world = is.world ∙ sym (cond-true _ _ _ (eq-eqb t.position old.steps e)); steps = is.steps; guard = is.guard }
+-- registers that are set
+pub registers-set : (old new : Device) (regs : Regs) → registers_of new.state.regs ≡ registers_of regs
+    → new ≡ (let s = old.state in record old { state = record s { regs = new.state.regs } })
+    → IsActed (Changed (Registers regs)) old.state new.state
+registers-set old new regs is left = record {
+  world = ap (λ (d : Device). world_of_state d.state) left
+      ∙ ap (λ (r : Values). (let w = world_of_state old.state in let v : World = record w { registers = r } in v)) is;
+  steps = ap (λ (d : Device). d.state.steps) left;
+  guard = ap (λ (d : Device). d.state.guard) left;
+}
 
-pub typed-elsewhere : (t : Typed) (old : MachineState) → (t.position ≡ old.steps → ⊥) → IsTypedBy (t ∷ []) old old
+-- a byte that is stored
+pub byte-stored : (old new : Device) (address byte : ℕ) → address < ram_end
+    → memory_of new.state.bus ≡ with_ram (memory_of old.state.bus) address byte
+    → new ≡ (let s = old.state in let n = new.state in record old { state = record s { bus = n.bus; picture = n.picture } })
+    → IsActed (Changed (Byte address byte)) old.state new.state
+byte-stored old new address byte low is left = record {
+  world = ap (λ (d : Device). world_of_state d.state) left
+      ∙ ap (λ (m : Memory). (let w = world_of_state old.state in let v : World = record w { memory = m } in v)) is
+      ∙ sym (cond-true _ _ _ (lt-ltb address ram_end low));
+  steps = ap (λ (d : Device). d.state.steps) left;
+  guard = ap (λ (d : Device). d.state.guard) left;
+}
+
+-- above RAM nothing is stored
+pub byte_not_stored : (state : MachineState) (address byte : ℕ) → (address < ram_end → ⊥) → IsActed (Changed (Byte address byte)) state state
+byte_not_stored state address byte high = record {
+  world = sym (cond-false _ _ _ above);
+  steps = refl;
+  guard = refl;
+}
+  where
+    above : nat_lt address ram_end ≡ false
+    above = grind (arith, nat_tests, high)
+
+-- one entry of a log
+pub acted-here : (t : Logged) (old new : MachineState) → t.position ≡ old.steps → IsActed t.action old new → IsActedBy (t ∷ []) old new
 unfolding with_logged
-typed-elsewhere t old ne = record { world = sym (cond-false _ _ _ (ne_eqb t.position old.steps ne)); steps = refl; guard = refl }
+acted-here t old new e is = record { world = is.world ∙ sym (cond-true _ _ _ (eq-eqb t.position old.steps e)); steps = is.steps; guard = is.guard }
+
+pub acted-elsewhere : (t : Logged) (old : MachineState) → (t.position ≡ old.steps → ⊥) → IsActedBy (t ∷ []) old old
+unfolding with_logged
+acted-elsewhere t old ne = record { world = sym (cond-false _ _ _ (ne_eqb t.position old.steps ne)); steps = refl; guard = refl }
 
 -- the next entry of a log
-pub logged-next : (log : List Typed) (i : ℕ) (t : Typed) (old new : MachineState) → drop i log ≡ t ∷ drop (i + 1) log → IsTypedBy (t ∷ []) old new
+pub logged-next : (log : List Logged) (i : ℕ) (t : Logged) (old new : MachineState) → drop i log ≡ t ∷ drop (i + 1) log → IsActedBy (t ∷ []) old new
     → with_logged (drop (i + 1) log) new.steps (world_of_state new) ≡ with_logged (drop i log) old.steps (world_of_state old)
 unfolding with_logged
 logged-next log i t old new split is =
@@ -70,42 +113,46 @@ pub logged-none : (n : ℕ) (w : World) → with_logged [] n w ≡ w
 unfolding with_logged
 logged-none n w = refl
 
--- Appending keys to a log types them after the others.
-pub logged-append : (xs ys : List Typed) (n : ℕ) (w : World) → with_logged (xs ++ ys) n w ≡ with_logged ys n (with_logged xs n w)
+-- What is appended to a log is done after the rest.
+pub logged-append : (xs ys : List Logged) (n : ℕ) (w : World) → with_logged (xs ++ ys) n w ≡ with_logged ys n (with_logged xs n w)
 unfolding with_logged
 logged-append [] ys n w = refl
 logged-append (t ∷ ts) ys n w = logged-append ts ys n _
 
--- Keys that come later do not matter.
-pub logged-up_to : (log : List Typed) (m n : ℕ) (w : World) → n ≤ m → with_logged (up_to m log) n w ≡ with_logged log n w
+-- What comes later does not matter.
+pub logged-up_to : (log : List Logged) (m n : ℕ) (w : World) → n ≤ m → with_logged (up_to m log) n w ≡ with_logged log n w
 unfolding with_logged
 logged-up_to [] m n w l = refl
 logged-up_to (t ∷ ts) m n w l = go (leb t.position m) refl (λ v. logged-up_to ts m n v l)
   where
     go : (b : Bool) → leb t.position m ≡ b → ((v : World) → with_logged (up_to m ts) n v ≡ with_logged ts n v)
-        → with_logged (cond b (t ∷ up_to m ts) (up_to m ts)) n w ≡ with_logged ts n (cond (eqb t.position n) (with_keys t.keys w) w)
-    go true e rest = rest (cond (eqb t.position n) (with_keys t.keys w) w)
+        → with_logged (cond b (t ∷ up_to m ts) (up_to m ts)) n w ≡ with_logged ts n (cond (eqb t.position n) (with_action t.action w) w)
+    go true e rest = rest (cond (eqb t.position n) (with_action t.action w) w)
     go false e rest =
         let above : m < t.position = leb-false t.position m e in
         let ne : t.position ≡ n → ⊥ = λ bad. omega (arith, above, bad, l) in
         rest w ∙ ap (λ v. with_logged ts n v) (sym (cond-false _ _ _ (ne_eqb t.position n ne)))
 
--- keys typed at a position, as an entry of a log
-pub logged-here : (keys : List ℕ) (n : ℕ) (w : World) → with_logged (record { position = n; keys = keys } ∷ []) n w ≡ with_keys keys w
+-- what is done at a position, as an entry of a log
+pub logged-here : (action : Action) (n : ℕ) (w : World) → with_logged (record { position = n; action = action } ∷ []) n w ≡ with_action action w
 unfolding with_logged
-logged-here keys n w = cond-true _ _ _ (eq-eqb n n refl)
+logged-here action n w = cond-true _ _ _ (eq-eqb n n refl)
 
-pub logged-not_yet : (keys : List ℕ) (m n : ℕ) (w : World) → n < m → with_logged (record { position = m; keys = keys } ∷ []) n w ≡ w
+pub logged-not_yet : (action : Action) (m n : ℕ) (w : World) → n < m → with_logged (record { position = m; action = action } ∷ []) n w ≡ w
 unfolding with_logged
-logged-not_yet keys m n w l = cond-false _ _ _ (ne_eqb m n (λ e. omega (arith, e, l)))
+logged-not_yet action m n w l = cond-false _ _ _ (ne_eqb m n (λ e. omega (arith, e, l)))
 
--- the log after keys were added
-pub noted : (course : Course) (origin : MachineState) (log kept new : List Typed) (p n : ℕ) (keys : List ℕ)
+pub logged-past : (action : Action) (m n : ℕ) (w : World) → m < n → with_logged (record { position = m; action = action } ∷ []) n w ≡ w
+unfolding with_logged
+logged-past action m n w l = cond-false _ _ _ (ne_eqb m n (λ e. omega (arith, e, l)))
+
+-- the log after an entry was added
+pub noted : (course : Course) (origin : MachineState) (log kept new : List Logged) (p n : ℕ) (action : Action)
     → (let seen : Course = record { origin = origin; log = log } in seen) ≡ course
-    → kept ≡ up_to p log → new ≡ kept ++ record { position = p; keys = keys } ∷ [] → p ≡ n
-    → (let seen : Course = record { origin = origin; log = new } in seen) ≡ with_typed n keys course
-noted course origin log kept new p n keys view filtered is at =
-    ap (λ (xs : List Typed). (let seen : Course = record { origin = origin; log = xs } in seen))
-    (is ∙ ap (λ (xs : List Typed). xs ++ record { position = p; keys = keys } ∷ []) filtered
-    ∙ ap (λ (m : ℕ). up_to m log ++ record { position = m; keys = keys } ∷ []) at)
-    ∙ ap (λ (k : Course). with_typed n keys k) view
+    → kept ≡ up_to p log → new ≡ kept ++ record { position = p; action = action } ∷ [] → p ≡ n
+    → (let seen : Course = record { origin = origin; log = new } in seen) ≡ with_done n action course
+noted course origin log kept new p n action view filtered is at =
+    ap (λ (xs : List Logged). (let seen : Course = record { origin = origin; log = xs } in seen))
+    (is ∙ ap (λ (xs : List Logged). xs ++ record { position = p; action = action } ∷ []) filtered
+    ∙ ap (λ (m : ℕ). up_to m log ++ record { position = m; action = action } ∷ []) at)
+    ∙ ap (λ (k : Course). with_done n action k) view

@@ -1,17 +1,20 @@
 -- Steps along a run.
 use Rattle.std.specs.Prelude.{IfSome, IfNone, is_some, is_ok, All, Result, Ok, Err, if◌then◌else◌, filter}
 use Rattle.std.proofs.lemmas.List.Elements.{All-push, All-filter}
-use Rattle.std.proofs.Common.{◌≡◌, ◌⊎◌, inl, inr, ℕ, zero, suc, ◌+◌, ◌<◌, ◌≤◌, Bool, true, false, true≢false, List, [], ◌∷◌, ◌++◌, Option, Some, None, refl, sym, ap, subst, ◌∙◌, arith, cond}
+use Rattle.std.proofs.Common.{◌≡◌, ◌⊎◌, inl, inr, ℕ, zero, suc, ◌+◌, ◌<◌, ◌≤◌, Bool, true, false, true≢false, List, [], ◌∷◌, ◌++◌, Option, Some, None, refl, sym, ap, subst, ◌∙◌, arith, cond, eqb, leb}
+use Rattle.std.proofs.lemmas.Bool.{ne_eqb, leb-true, cond-false}
 use Rattle.a2_services.specs.World.{World}
 use Rattle.a2_machine.specs.declared.causes.Cause.{Cause}
 use Rattle.a2_machine.specs.ByteRun.{bytes}
 use Rattle.a2_machine.specs.Meaning.{Code, stuck, next}
 use Rattle.a2_machine.specs.State.{MachineState, Device, world_of_state, code_of, cause_of, most_steps, IsStep}
 use Rattle.a2_machine.proofs.Making.{cause_told, cause_none}
-use Rattle.a2_history.specs.Courses.{Course, with_keys, with_logged, arrived, world_on, NoneStuck}
-use Rattle.a2_history.specs.Going.{IsNewest, IsOn, AreOn, up_to, with_typed}
-use Rattle.a2_history.specs.Typing.{IsTyped, IsTypedBy}
-use Rattle.a2_history.proofs.Logs.{logged-append, logged-up_to, logged-here, logged-not_yet}
+use Rattle.a2_history.specs.declared.actions.Action.{Action}
+use Rattle.a2_history.specs.declared.actions.Logged.{Logged}
+use Rattle.a2_history.specs.Courses.{Course, with_action, with_logged, arrived, world_on, NoneStuck}
+use Rattle.a2_history.specs.Going.{IsNewest, IsOn, AreOn, up_to, with_done}
+use Rattle.a2_history.specs.Acting.{IsActed, IsActedBy}
+use Rattle.a2_history.proofs.Logs.{logged-append, logged-up_to, logged-here, logged-not_yet, logged-past}
 
 pub none-some : {X : Type 0} (x : X) → None ≡ Some x → ⊥
 none-some x e = true≢false (sym (ap is_some e))
@@ -41,7 +44,7 @@ below-next n P here before k lt = go (split k lt)
     go (inr l) = before k l
 
 -- the start
-pub on-start : (course : Course) (old new : MachineState) → world_of_state old ≡ world_of_state course.origin → old.steps ≡ 0 → IsTypedBy course.log old new → IsOn course new
+pub on-start : (course : Course) (old new : MachineState) → world_of_state old ≡ world_of_state course.origin → old.steps ≡ 0 → IsActedBy course.log old new → IsOn course new
 unfolding world_on arrived
 on-start course old new same none is =
     let at : new.steps ≡ 0 = is.steps ∙ none in record {
@@ -52,7 +55,7 @@ on-start course old new same none is =
 
 -- one step
 pub on-step : (course : Course) (old mid new : Device) → IsOn course old.state → old.state.guard ≡ course.origin.guard → old.state.steps < 100_000_000
-    → None ≡ cause_of old.state → IsStep old mid → IsTypedBy course.log mid.state new.state → IsOn course new.state
+    → None ≡ cause_of old.state → IsStep old mid → IsActedBy course.log mid.state new.state → IsOn course new.state
 unfolding world_on arrived
 on-step course old mid new on guarded few none step is =
     let one : suc old.state.steps ≡ old.state.steps + 1 = omega arith in
@@ -76,7 +79,7 @@ stuck-here course old cause guarded few told =
     sym (ap (λ (k : Code). stuck k (world_of_state old.state)) (same-code course old.state guarded)) ∙ sym (cause-stuck old few) ∙ sym told
 
 pub on-made : (course : Course) (old mid new : Device) (r : Option Cause) → IsOn course old.state → old.state.guard ≡ course.origin.guard
-    → old.state.steps < 100_000_000 → r ≡ cause_of old.state → IfNone r (IsStep old mid) → IsTypedBy course.log mid.state new.state
+    → old.state.steps < 100_000_000 → r ≡ cause_of old.state → IfNone r (IsStep old mid) → IsActedBy course.log mid.state new.state
     → IfNone r (IsOn course new.state)
 on-made course old mid new None on guarded few told step is = on-step course old mid new on guarded few told step is
 on-made course old mid new (Some cause) on guarded few told step is = tt
@@ -133,41 +136,62 @@ pub newest-following : (seen : World → Bool) (course : Course) (low from end p
     → IsNewest seen course low end (Some p)
 newest-following seen course low from end p l is = (omega (arith, l, is.0), is.1, is.2, is.3)
 
--- Typing keys at a position changes nothing before it.
-module _ (course : Course) (n : ℕ) (keys : List ℕ) where
-  same-logged : (k : ℕ) (w : World) → k < n → with_logged (with_typed n keys course).log k w ≡ with_logged course.log k w
+-- What is done at a position changes nothing before it.
+module _ (course : Course) (n : ℕ) (action : Action) where
+  same-logged : (k : ℕ) (w : World) → k < n → with_logged (with_done n action course).log k w ≡ with_logged course.log k w
   same-logged k w l =
-      logged-append (up_to n course.log) _ k w ∙ logged-not_yet keys n k _ l ∙ logged-up_to course.log n k w (omega (arith, l))
+      logged-append (up_to n course.log) _ k w ∙ logged-not_yet action n k _ l ∙ logged-up_to course.log n k w (omega (arith, l))
 
-  pub same-arrived : (k : ℕ) → k ≤ n → arrived (with_typed n keys course) k ≡ arrived course k
+  pub same-arrived : (k : ℕ) → k ≤ n → arrived (with_done n action course) k ≡ arrived course k
   unfolding arrived
   same-arrived zero l = refl
   same-arrived (suc k) l =
       ap (next (code_of course.origin))
-      (ap (λ w. with_logged (with_typed n keys course).log k w) (same-arrived k (omega (arith, l))) ∙ same-logged k (arrived course k) (omega (arith, l)))
+      (ap (λ w. with_logged (with_done n action course).log k w) (same-arrived k (omega (arith, l))) ∙ same-logged k (arrived course k) (omega (arith, l)))
 
-  pub same-before : (k : ℕ) → k < n → world_on (with_typed n keys course) k ≡ world_on course k
+  pub same-before : (k : ℕ) → k < n → world_on (with_done n action course) k ≡ world_on course k
   unfolding world_on
   same-before k l =
-      ap (λ w. with_logged (with_typed n keys course).log k w) (same-arrived k (omega (arith, l))) ∙ same-logged k (arrived course k) l
+      ap (λ w. with_logged (with_done n action course).log k w) (same-arrived k (omega (arith, l))) ∙ same-logged k (arrived course k) l
 
-  pub same-here : world_on (with_typed n keys course) n ≡ with_keys keys (world_on course n)
+  pub same-here : world_on (with_done n action course) n ≡ with_action action (world_on course n)
   unfolding world_on
   same-here =
-      ap (λ w. with_logged (with_typed n keys course).log n w) (same-arrived n (omega arith))
-      ∙ logged-append (up_to n course.log) _ n (arrived course n) ∙ logged-here keys n _
-      ∙ ap (with_keys keys) (logged-up_to course.log n n (arrived course n) (omega arith))
+      ap (λ w. with_logged (with_done n action course).log n w) (same-arrived n (omega arith))
+      ∙ logged-append (up_to n course.log) _ n (arrived course n) ∙ logged-here action n _
+      ∙ ap (with_action action) (logged-up_to course.log n n (arrived course n) (omega arith))
 
-  pub same-went : (m : ℕ) → m ≤ n → NoneStuck course m → NoneStuck (with_typed n keys course) m
+  none-later : (log : List Logged) (k : ℕ) (w : World) → n < k → with_logged (up_to n log) k w ≡ w
+  unfolding with_logged
+  none-later [] k w l = refl
+  none-later (t ∷ ts) k w l = go (leb t.position n) refl (none-later ts k w l)
+    where
+      go : (b : Bool) → leb t.position n ≡ b → with_logged (up_to n ts) k w ≡ w → with_logged (cond b (t ∷ up_to n ts) (up_to n ts)) k w ≡ w
+      go true e rest =
+          let low : t.position ≤ n = leb-true t.position n e in
+          let ne : t.position ≡ k → ⊥ = λ bad. omega (arith, low, bad, l) in
+          ap (λ v. with_logged (up_to n ts) k v) (cond-false _ _ _ (ne_eqb t.position k ne)) ∙ rest
+      go false e rest = rest
+
+  pub forgotten-later : (k : ℕ) → n ≤ k
+      → world_on (with_done n action course) (suc k) ≡ next (code_of course.origin) (world_on (with_done n action course) k)
+  unfolding world_on arrived
+  forgotten-later k l =
+      let w : World = arrived (with_done n action course) (suc k) in
+      logged-append (up_to n course.log) _ (suc k) w
+      ∙ logged-past action n (suc k) (with_logged (up_to n course.log) (suc k) w) (omega (arith, l))
+      ∙ none-later course.log (suc k) w (omega (arith, l))
+
+  pub same-went : (m : ℕ) → m ≤ n → NoneStuck course m → NoneStuck (with_done n action course) m
   same-went m l went = λ k lt. ap (stuck (code_of course.origin)) (same-before k (omega (arith, lt, l))) ∙ went k lt
 
-  pub same-on : (state : MachineState) → state.steps < n → IsOn course state → IsOn (with_typed n keys course) state
+  pub same-on : (state : MachineState) → state.steps < n → IsOn course state → IsOn (with_done n action course) state
   same-on state l on = record { world = on.world ∙ sym (same-before state.steps l); went = same-went state.steps (omega (arith, l)) on.went }
 
-  pub typed-on : (old new : MachineState) → old.steps ≡ n → IsOn course old → IsTyped keys old new → IsOn (with_typed n keys course) new
-  typed-on old new e on is =
+  pub done-on : (old new : MachineState) → old.steps ≡ n → IsOn course old → IsActed action old new → IsOn (with_done n action course) new
+  done-on old new e on is =
       let at : new.steps ≡ n = is.steps ∙ e in record {
-        world = is.world ∙ ap (with_keys keys) (on.world ∙ ap (world_on course) e) ∙ sym same-here ∙ ap (world_on (with_typed n keys course)) (sym at);
+        world = is.world ∙ ap (with_action action) (on.world ∙ ap (world_on course) e) ∙ sym same-here ∙ ap (world_on (with_done n action course)) (sym at);
         went = λ k l. same-went n (omega arith) (λ j m. on.went j (omega (arith, m, e))) k (omega (arith, l, at));
       }
 
@@ -187,7 +211,7 @@ pub on-filtered : (course : Course) (test : Device → Bool) (old new : List Dev
 on-filtered course test old new is on =
     subst (λ (xs : List Device). AreOn course xs) (sym is) (All-filter test (λ (d : Device). IsOn course d.state) old on)
 
--- the checkpoints before a position at which keys are typed
-pub on-typed : (course : Course) (n : ℕ) (keys : List ℕ) (ds : List Device) → AreOn course ds → All (λ d. d.state.steps < n) ds
-    → AreOn (with_typed n keys course) ds
-on-typed course n keys ds on before = λ k d l. same-on course n keys _ (before k d l) (on k d l)
+-- the checkpoints before a position at which something is done
+pub on-done : (course : Course) (n : ℕ) (action : Action) (ds : List Device) → AreOn course ds → All (λ d. d.state.steps < n) ds
+    → AreOn (with_done n action course) ds
+on-done course n action ds on before = λ k d l. same-on course n action _ (before k d l) (on k d l)

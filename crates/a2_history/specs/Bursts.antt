@@ -3,7 +3,7 @@ use Rattle.std.specs.Prelude.{◌≡◌, ℕ, ◌+◌, ◌-◌, ◌<◌, ◌≤�
 use Rattle.a2_services.specs.World.{World}
 use Rattle.a2_machine.specs.Meaning.{stuck, world_at}
 use Rattle.a2_machine.specs.State.{Device, world_of_state, code_of}
-use Rattle.a2_history.specs.declared.Typed.{Typed}
+use Rattle.a2_history.specs.declared.actions.Logged.{Logged}
 use Rattle.a2_history.specs.Courses.{with_logged}
 
 -- some steps were run, at most this many
@@ -15,6 +15,6 @@ pub record IsBurst (most : ℕ) (old new : Device) : Type 0 where
       → stuck (code_of old.state) (world_at (code_of old.state) (world_of_state old.state) k) ≡ None
   pub guard : new.state.guard ≡ old.state.guard
 
--- no keys of a log were typed between two positions
-abbrev pub IsQuiet : List Typed → ℕ → ℕ → Type 0
+-- nothing of a log was done between two positions
+abbrev pub IsQuiet : List Logged → ℕ → ℕ → Type 0
 IsQuiet log from to = (k : ℕ) → from < k → k < to → (world : World) → with_logged log k world ≡ world

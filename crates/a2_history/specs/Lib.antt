@@ -1,6 +1,7 @@
 pub mod Courses
-pub mod Typing
+pub mod Acting
 pub mod Going
+pub mod HandLaws
 pub mod Gone
 pub mod Bursts
 pub mod Routines

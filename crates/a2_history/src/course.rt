@@ -1,28 +1,33 @@
-//! Represents a run by its start and the keys typed during it.
+//! Represents a run by its start and what is done by hand during it.
 
 ghost use Rattle.std.specs.Prelude.{◌≡◌, ◌+◌, ◌-◌, ◌<◌, ◌≤◌, ◌∷◌, [], None, Some, length, if◌then◌else◌, IfSome, IfNone, IfOk};
-ghost use Rattle.std.specs.Prelude.{IfErr, OnOk, OnErr};
+ghost use Rattle.std.specs.Prelude.{IfErr, OnOk, OnErr, ◌++◌, ◌==◌, ◌&&◌, nat_lt, vec_len, vec_capacity};
 ghost use Rattle.a2_machine.specs.Meaning.{stuck};
 ghost use Rattle.a2_machine.specs.Looks.{shown_at, observer_after};
 ghost use Rattle.a2_machine.specs.State.{world_of_state, code_of};
 ghost use Rattle.a2_history.specs.Courses.{NoneStuck};
-ghost use Rattle.a2_history.specs.Going.{IsNewest, IsOn, shown_on, with_typed};
+ghost use Rattle.a2_history.specs.Going.{IsNewest, IsOn, shown_on, with_typed, with_changed, up_to, is_change as is_change_of, is_changed_after as is_changed_after_of, is_changed_at as is_changed_at_of};
 ghost use Rattle.a2_history.specs.Bursts.{IsBurst, IsQuiet};
-ghost use Rattle.a2_history.specs.Typing.{IsTyped, IsTypedBy};
+ghost use Rattle.a2_history.specs.Acting.{IsActed, IsActedBy};
+ghost use Rattle.a2_history.specs.declared.actions.Action.TheVariants.{Keys as Typed, Change as Changed};
+ghost use Rattle.a2_bus.specs.Memory.{ram_end};
+ghost use Rattle.a2_history.specs.declared.actions.Change.TheVariants.{Registers, Byte};
 ghost use Rattle.a2_history.specs.declared.fault.TypingFault.TheVariants.{Full};
 
 use crate::spacing::STRIDE;
-use crate::{SearchTarget, Typed, TypingFault};
+use crate::{Action, Change, Logged, SearchTarget, TypingFault};
 use a2_burst::{NoObserver, Observer};
 use a2_bus::Keys;
+use a2_effect::Regs;
+use a2_hex::RAM_END;
 use a2_machine::{Cause, Machine};
 use std::alloc::{AllocError, Allocator, Global};
 use std::marker::Model;
 
-/// A run: a machine at its start, and the keys that were typed during it.
+/// A run: a machine at its start, and what was done by hand during it.
 pub struct Course<A: Allocator = Global> {
     origin: Machine<A>,
-    log: Vec<Typed, A>,
+    log: Vec<Logged, A>,
 }
 
 // Not derived, only for the prover: it sees this as one call, but a derived `Drop` field by field.
@@ -45,40 +50,129 @@ impl<A: Allocator> Model for Course<A> {
 
 // Types keys, if they fit.
 fn type_fitting<A: Allocator + Copy>(machine: &mut Machine<A>, keys: &Keys)
-    ensures { IsTyped keys.now machine.old.state machine.new.state }
+    ensures { IsActed (Typed keys.now) machine.old.state machine.new.state }
 {
     let _ = machine.type_keys(keys);
 }
 
-// Types keys if they were typed at the machine's position.
-fn retype<A: Allocator + Copy>(machine: &mut Machine<A>, typed: &Typed)
-    ensures { IsTypedBy (typed.now ∷ []) machine.old.state machine.new.state }
+// Sets all registers.
+fn set_registers<A: Allocator + Copy>(machine: &mut Machine<A>, regs: Regs)
+    ensures { IsActed (Changed (Registers regs)) machine.old.state machine.new.state }
 {
-    if typed.position == machine.steps() {
-        type_fitting(machine, &typed.keys);
+    machine.set_regs(regs);
+}
+
+// Stores a byte in RAM.
+fn store<A: Allocator + Copy>(machine: &mut Machine<A>, address: u16, byte: u8)
+    requires { address < ram_end }
+    ensures { IsActed (Changed (Byte address byte)) machine.old.state machine.new.state }
+{
+    machine.poke(address, byte);
+}
+
+// Stores a byte if the address is in RAM.
+#[tactic(auto, using(crate::proofs::Logs::byte_not_stored))]
+fn store_if_ram<A: Allocator + Copy>(machine: &mut Machine<A>, address: u16, byte: u8)
+    ensures { IsActed (Changed (Byte address byte)) machine.old.state machine.new.state }
+{
+    if address < RAM_END {
+        store(machine, address, byte);
     }
 }
 
-// Types those keys of a log that were typed at the machine's position, if they fit.
-fn type_logged<A: Allocator + Copy>(machine: &mut Machine<A>, log: &[Typed])
-    ensures { IsTypedBy log.now machine.old.state machine.new.state }
+// Changes a byte or registers.
+fn make_change<A: Allocator + Copy>(machine: &mut Machine<A>, change: Change)
+    ensures { IsActed (Changed change) machine.old.state machine.new.state }
 {
-    for typed in log {
-        retype(machine, typed);
+    match change {
+        Change::Registers(regs) => set_registers(machine, regs),
+        Change::Byte(address, byte) => store_if_ram(machine, address, byte),
     }
 }
 
-// Returns the first position after `from` at which keys of a log were typed, or `end` if that is earlier.
-fn next_typed_position(log: &[Typed], from: u64, end: u64) -> u64
+// Does what was done by hand.
+fn act<A: Allocator + Copy>(machine: &mut Machine<A>, action: &Action)
+    ensures { IsActed action.now machine.old.state machine.new.state }
+{
+    match action {
+        Action::Keys(keys) => type_fitting(machine, keys),
+        Action::Change(change) => make_change(machine, *change),
+    }
+}
+
+// Does it if it was done at the machine's position.
+fn repeat<A: Allocator + Copy>(machine: &mut Machine<A>, logged: &Logged)
+    ensures { IsActedBy (logged.now ∷ []) machine.old.state machine.new.state }
+{
+    if logged.position == machine.steps() {
+        act(machine, &logged.action);
+    }
+}
+
+// Does what a log holds for the machine's position.
+fn act_logged<A: Allocator + Copy>(machine: &mut Machine<A>, log: &[Logged])
+    ensures { IsActedBy log.now machine.old.state machine.new.state }
+{
+    for logged in log {
+        repeat(machine, logged);
+    }
+}
+
+// Adds what is done at a position to a log that has room for it, and forgets what was done later.
+fn note<A: Allocator + Copy>(log: &mut Vec<Logged, A>, position: u64, action: Action)
+    requires { vec_len log.old < vec_capacity log.old }
+    ensures { log.new.items ≡ up_to position log.old.items ++ record { position = position; action = action } ∷ [] }
+{
+    log.retain(|logged| logged.position <= position);
+    log.push_reserved(Logged { position, action });
+}
+
+// Returns whether a byte or registers are changed.
+fn is_change(action: &Action) -> bool
+    ensures { result ≡ is_change_of action.now }
+{
+    matches!(action, Action::Change(_))
+}
+
+// Returns whether an entry of a log changes a byte or registers after a position.
+fn is_later_change(logged: &Logged, position: u64) -> bool
+    ensures { result ≡ (nat_lt position logged.now.position && is_change_of logged.now.action) }
+{
+    position < logged.position && is_change(&logged.action)
+}
+
+// Returns whether any entry does.
+fn is_any_later_change(log: &[Logged], position: u64) -> bool
+    ensures { result ≡ is_changed_after_of position log.now }
+{
+    log.iter().any(|logged| is_later_change(logged, position))
+}
+
+// Returns whether an entry of a log changes a byte or registers at a position.
+fn is_change_at(logged: &Logged, position: u64) -> bool
+    ensures { result ≡ ((position == logged.now.position) && is_change_of logged.now.action) }
+{
+    position == logged.position && is_change(&logged.action)
+}
+
+// Returns whether any entry does.
+fn is_any_change_at(log: &[Logged], position: u64) -> bool
+    ensures { result ≡ is_changed_at_of position log.now }
+{
+    log.iter().any(|logged| is_change_at(logged, position))
+}
+
+// Returns the first position after `from` for which a log holds anything, or `end` if that is earlier.
+fn next_logged_position(log: &[Logged], from: u64, end: u64) -> u64
     requires { from < end }
     ensures ahead { from < result }
     ensures within { result ≤ end }
     ensures quiet { IsQuiet log.now from result }
 {
     let mut quiet = end;
-    for typed in log {
-        if from < typed.position && typed.position < quiet {
-            quiet = typed.position;
+    for logged in log {
+        if from < logged.position && logged.position < quiet {
+            quiet = logged.position;
         }
     }
     quiet
@@ -114,8 +208,8 @@ fn newer(found: Option<u64>, position: u64, is_found_in: bool) -> Option<u64>
 }
 
 impl<A: Allocator + Copy> Course<A> {
-    /// Creates the run of a machine that has not executed any step, with no keys typed later. Fails only if memory is
-    /// short.
+    /// Creates the run of a machine that has not executed any step, with nothing done by hand. Fails only if memory
+    /// is short.
     pub fn new(alloc: A, machine: &Machine<A>) -> Result<Course<A>, AllocError>
         requires { machine.now.state.steps ≡ 0 }
         ensures { IfOk result (λ c. c ≡ record { origin = machine.now.state; log = [] }) }
@@ -137,10 +231,10 @@ impl<A: Allocator + Copy> Course<A> {
         ensures guard { machine.new.state.guard ≡ machine.old.state.guard }
     {
         machine.restore(&self.origin);
-        type_logged(machine, self.log.as_slice());
+        act_logged(machine, self.log.as_slice());
     }
 
-    /// Executes one step and types the keys that were typed after it, or returns why no step can be executed.
+    /// Executes one step and does what was done by hand after it, or returns why no step can be executed.
     pub fn execute_step(&self, machine: &mut Machine<A>) -> Option<Cause>
         requires on { IsOn self.now machine.old.state }
         requires guard { machine.old.state.guard ≡ self.now.origin.guard }
@@ -153,14 +247,14 @@ impl<A: Allocator + Copy> Course<A> {
     {
         let cause = machine.step();
         if cause.is_none() {
-            type_logged(machine, self.log.as_slice());
+            act_logged(machine, self.log.as_slice());
         }
         cause
     }
 
-    /// Runs some steps, not beyond `end`, all of which the observer sees, and types the keys that were typed after
-    /// the last one. Returns why no step can be run, if so. No keys were typed after the other steps, and the call
-    /// never passes a position at which a checkpoint may be made.
+    /// Runs some steps, not beyond `end`, all of which the observer sees, and does what was done by hand after the last
+    /// one. Returns why no step can be run, if so. Nothing was done by hand after the other steps, and the call never
+    /// passes a position at which a checkpoint may be made.
     pub fn leap<O: Observer>(
         &self,
         machine: &mut Machine<A>,
@@ -174,6 +268,7 @@ impl<A: Allocator + Copy> Course<A> {
         ensures on { IfNone result (IsOn self.now machine.new.state) }
         ensures ahead { IfNone result (machine.old.state.steps < machine.new.state.steps) }
         ensures within { IfNone result (machine.new.state.steps ≤ end) }
+        ensures quiet { IfNone result (IsQuiet self.now.log machine.old.state.steps machine.new.state.steps) }
         ensures seen { IfNone result (observer.new ≡ observer_after O.seen (λ k. shown_on self.now (machine.old.state.steps + k))
             observer.old (machine.new.state.steps - machine.old.state.steps)) }
         ensures guard { machine.new.state.guard ≡ machine.old.state.guard }
@@ -182,11 +277,11 @@ impl<A: Allocator + Copy> Course<A> {
     {
         let from = machine.steps();
         let edge = (from - from % STRIDE + STRIDE).min(end);
-        let quiet = next_typed_position(self.log.as_slice(), from, edge);
+        let quiet = next_logged_position(self.log.as_slice(), from, edge);
         if let Some(cause) = burst(machine, (quiet - from) as u32, observer) {
             return Some(cause);
         }
-        type_logged(machine, self.log.as_slice());
+        act_logged(machine, self.log.as_slice());
         None
     }
 
@@ -234,11 +329,11 @@ impl<A: Allocator + Copy> Course<A> {
         found
     }
 
-    /// Types keys after those that wait, and logs them at the machine's position; keys that were typed later are
+    /// Types keys after those that wait, and logs them at the machine's position; what was done by hand later is
     /// forgotten. Fails without any change if more than 4,096 keys would wait, or if memory is short.
     pub fn type_keys(&mut self, machine: &mut Machine<A>, keys: Keys) -> Result<(), TypingFault>
         requires { IsOn self.old machine.old.state }
-        ensures typed { OnOk result (IsTyped keys machine.old.state machine.new.state) }
+        ensures typed { OnOk result (IsActed (Typed keys) machine.old.state machine.new.state) }
         ensures noted { OnOk result (self.new ≡ with_typed machine.old.state.steps keys self.old) }
         ensures on { OnOk result (IsOn self.new machine.new.state) }
         ensures steps { machine.new.state.steps ≡ machine.old.state.steps }
@@ -253,9 +348,38 @@ impl<A: Allocator + Copy> Course<A> {
         if machine.type_keys(&keys).is_err() {
             return Err(TypingFault::Full);
         }
-        let position = machine.steps();
-        self.log.retain(|typed| typed.position <= position);
-        self.log.push_reserved(Typed { position, keys });
+        note(&mut self.log, machine.steps(), Action::Keys(keys));
         Ok(())
+    }
+
+    /// Changes a byte or registers, and logs that at the machine's position; what was done by hand later is forgotten.
+    /// Fails without any change if memory is short.
+    pub fn change(&mut self, machine: &mut Machine<A>, change: Change) -> Result<(), AllocError>
+        requires { IsOn self.old machine.old.state }
+        ensures made { OnOk result (IsActed (Changed change) machine.old.state machine.new.state) }
+        ensures noted { OnOk result (self.new ≡ with_changed machine.old.state.steps change self.old) }
+        ensures on { OnOk result (IsOn self.new machine.new.state) }
+        ensures steps { machine.new.state.steps ≡ machine.old.state.steps }
+        ensures guard { machine.new.state.guard ≡ machine.old.state.guard }
+        ensures kept { OnErr result ((self.new ≡ self.old) × (machine.new ≡ machine.old)) }
+    {
+        self.log.try_reserve(1)?;
+        make_change(machine, change);
+        note(&mut self.log, machine.steps(), Action::Change(change));
+        Ok(())
+    }
+
+    /// Returns whether a byte or registers were changed by hand after a position.
+    pub fn is_changed_after(&self, position: u64) -> bool
+        ensures { result ≡ is_changed_after_of position self.now.log }
+    {
+        is_any_later_change(self.log.as_slice(), position)
+    }
+
+    /// Returns whether a byte or registers were changed by hand at a position.
+    pub fn is_changed_at(&self, position: u64) -> bool
+        ensures { result ≡ is_changed_at_of position self.now.log }
+    {
+        is_any_change_at(self.log.as_slice(), position)
     }
 }

@@ -2,8 +2,8 @@
 
 ghost use Rattle.std.specs.Prelude.{◌≡◌, ◌+◌, ◌<◌, ◌≤◌, ℕ, min, [], length, IfOk, IfErr, OnOk, OnErr};
 ghost use Rattle.a2_machine.specs.State.{world_of_state};
-ghost use Rattle.a2_history.specs.Courses.{Course as Seen, NoneStuck, with_keys};
-ghost use Rattle.a2_history.specs.Going.{here, Advances, AlarmsAreComplete, IsNewest, IsOn, AreOn, with_typed};
+ghost use Rattle.a2_history.specs.Courses.{Course as Seen, NoneStuck, with_keys, with_change};
+ghost use Rattle.a2_history.specs.Going.{here, Advances, AlarmsAreComplete, IsNewest, IsOn, AreOn, with_typed, with_changed, is_changed_after, is_changed_at as is_changed_at_of};
 ghost use Rattle.a2_history.specs.Gone.{HasRunTo, IsCauseAt};
 ghost use Rattle.a2_history.specs.Routines.{entered as entered_on, IsNewestOutside};
 ghost use Rattle.a2_history.specs.declared.fault.TypingFault.TheVariants.{Full};
@@ -13,7 +13,7 @@ use crate::course::Course;
 use crate::lookout::Watcher;
 use crate::routines::routines_up_to;
 use crate::spacing::STRIDE;
-use crate::{Halt, Lookout, SearchTarget, TypingFault};
+use crate::{Change, Halt, Lookout, SearchTarget, TypingFault};
 use a2_bus::Keys;
 use a2_machine::{Cause, Machine};
 use a2_routines::Entry;
@@ -30,8 +30,7 @@ const MAX_SCOUT_LAG: u64 = 8 * STRIDE;
 /// A run and a position in it.
 ///
 /// The position is the number of steps from the start, at most 100,000,000. Contracts see the machine at the start,
-/// the keys that were typed with their positions, and the position. The world at each position is a function of
-/// these.
+/// what was done by hand with the positions, and the position. The world at each position is a function of these.
 pub struct History<A: Allocator = Global> {
     alloc: A,
     course: Course<A>,
@@ -96,9 +95,10 @@ impl<A: Allocator + Copy> History<A> {
     /// - a world that is stuck;
     /// - `limit` steps or position 100,000,000.
     ///
-    /// It returns `Cause::Limit` only if no other cause applies. Keys that were typed in this part of the run are
-    /// typed again. The steps are run in bursts, and worlds are examined only if `lookout` raises an alarm. So
-    /// `lookout` must raise one at each step after which something is newly seen.
+    /// It returns `Cause::Limit` only if no other cause applies. What was done by hand in this part of the run is done
+    /// again. The steps are run in bursts. Worlds are examined if `lookout` raises an alarm, and after each burst, which
+    /// ends where something was done by hand. So `lookout` must raise an alarm at each other step after which something
+    /// is newly seen.
     pub fn advance<S: SearchTarget, L: Lookout>(
         &mut self,
         limit: u32,
@@ -241,7 +241,8 @@ fn replay_one_by_one<A: Allocator + Copy, S: SearchTarget>(
     run_one_by_one(alloc, course, machine, checkpoints, to, sight)
 }
 
-// Runs up to an end in bursts. If a step of a burst raises an alarm, the burst's steps are replayed one by one.
+// Runs up to an end in bursts. If a step of a burst raises an alarm, the burst's steps are replayed one by one. If none
+// does, only the world after the burst can be seen, because something was done by hand there.
 fn run_in_bursts<A: Allocator + Copy, S: SearchTarget, L: Lookout>(
     alloc: A,
     course: &Course<A>,
@@ -289,6 +290,9 @@ fn run_in_bursts<A: Allocator + Copy, S: SearchTarget, L: Lookout>(
             }
         } else {
             checkpoints.keep(alloc, machine);
+            if sight.is_found_in(machine) {
+                return Some(Halt::Seen);
+            }
         }
         from = machine.steps();
     }
@@ -392,7 +396,7 @@ impl<A: Allocator + Copy> History<A> {
 }
 
 impl<A: Allocator + Copy> History<A> {
-    /// Types `keys` at the current position, after those that wait; keys that were typed at later positions are
+    /// Types `keys` at the current position, after those that wait; what was done by hand at later positions is
     /// forgotten. Fails without any change: with `TypingFault::Full` if more than 4,096 keys would wait, and with
     /// `TypingFault::Memory` if memory is short.
     pub fn type_keys(&mut self, keys: Keys) -> Result<(), TypingFault>
@@ -407,6 +411,35 @@ impl<A: Allocator + Copy> History<A> {
         self.checkpoints.forget_from(position);
         self.checkpoints.keep(self.alloc, &self.machine);
         Ok(())
+    }
+
+    /// Changes a byte or registers at the current position; what was done by hand at later positions is forgotten. The
+    /// change is part of the run: going back to an earlier position undoes it, and going forwards from there makes it
+    /// again. Fails without any change if memory is short.
+    pub fn change(&mut self, change: Change) -> Result<(), AllocError>
+        ensures changed { OnOk result (self.new ≡ record self.old { course = with_changed self.old.position change self.old.course }) }
+        ensures here { OnOk result (here self.new ≡ with_change change (here self.old)) }
+        ensures kept { OnErr result (self.new ≡ self.old) }
+    {
+        let position = self.machine.steps();
+        self.course.change(&mut self.machine, change)?;
+        self.checkpoints.forget_from(position);
+        self.checkpoints.keep(self.alloc, &self.machine);
+        Ok(())
+    }
+
+    /// Returns whether a byte or registers were changed by hand after the current position.
+    pub fn is_changed_ahead(&self) -> bool
+        ensures { result ≡ is_changed_after self.now.position self.now.course.log }
+    {
+        self.course.is_changed_after(self.machine.steps())
+    }
+
+    /// Returns whether a byte or registers were changed by hand at `position`.
+    pub fn is_changed_at(&self, position: u64) -> bool
+        ensures { result ≡ is_changed_at_of position self.now.course.log }
+    {
+        self.course.is_changed_at(position)
     }
 
     /// Returns the routines that were entered before the current position and not left, the outermost first. A JSR

@@ -1,8 +1,9 @@
 use Rattle.std.proofs.Common.{◌<◌, All, arith, ap, sym, ◌∙◌, subst}
 use Rattle.std.proofs.lemmas.Result.{err_from_is_err_and}
+use Rattle.a2_history.specs.declared.actions.Action.TheVariants.{Keys}
 use Rattle.a2_history.specs.Courses.{Course}
 use Rattle.a2_history.specs.Going.{Track, here, AreOn}
-use Rattle.a2_history.proofs.Ways.{on-typed}
+use Rattle.a2_history.proofs.Ways.{on-done}
 use Rattle.a2_history.proofs.Histories.{waiting-keys}
 use Rattle.a2_history.proofs.history.History.type_keys.Goals as goal
 
@@ -17,7 +18,7 @@ invariant_of-self-2 g c =
       c.self.invariant.3 ∙ sym (ap (λ (k : Course). k.origin.guard) noted),
       c.keep.ensures c.type_keys.new.self c.in_ok-type_keys.ensures.on
           (subst (λ (k : Course). AreOn k c.forget_from.new.self) (sym noted)
-          (on-typed c.self.inside.course n c.args.keys c.forget_from.new.self (c.forget_from.ensures.on c.self.inside.course c.self.invariant.4) before)),
+          (on-done c.self.inside.course n (Keys c.args.keys) c.forget_from.new.self (c.forget_from.ensures.on c.self.inside.course c.self.invariant.4) before)),
     )
 
 pub returns-clause-room : goal.returns-clause-room
