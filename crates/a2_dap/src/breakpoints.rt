@@ -39,8 +39,8 @@ fn unset(alloc: Global, why: &str) -> Result<Value, AllocError> {
     json!(in alloc; {"verified": false, "message": why})
 }
 
-// Returns the first instruction on a line or after it.
-fn next_instruction(place: &Place<'_>, line: usize) -> Option<Statement> {
+/// Returns the first instruction on a line or after it.
+pub fn next_instruction(place: &Place<'_>, line: usize) -> Option<Statement> {
     for number in line..=place.lines {
         let found = instruction_on(place.program.statements(), number);
         if found.is_some() {

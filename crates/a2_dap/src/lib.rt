@@ -4,6 +4,7 @@
 #![tactic(auto)]
 
 mod breakpoints;
+mod changing;
 mod evaluating;
 mod marking;
 mod memory;

@@ -48,8 +48,8 @@ fn bytes_from(ram: &[u8], first: usize, count: u64) -> &[u8] {
     }
 }
 
-// Returns the address that a request names, with its offset.
-fn address_in(arguments: &Value) -> Option<u16> {
+/// Returns the address that a request names, with its offset.
+pub fn address_in(arguments: &Value) -> Option<u16> {
     let address = reference_in(text_in(arguments, "memoryReference")?)?;
     with_offset(address, arguments)
 }

@@ -29,6 +29,8 @@ pub enum Stop {
     WillChange(Span),
     /// It cannot continue for this cause, or, with `Cause::Limit`, the most steps of a request were executed.
     Ended(Cause),
+    /// PC was set.
+    Jumped,
     /// It is in no routine that could be left.
     NoRoutine,
     /// There was not enough memory.

@@ -14,7 +14,8 @@ const CAPABILITIES: &str = "{\"supportsConfigurationDoneRequest\":true,\"support
 \"supportsConditionalBreakpoints\":true,\"supportsHitConditionalBreakpoints\":true,\"supportsFunctionBreakpoints\":true,\
 \"supportsDataBreakpoints\":true,\"supportsInstructionBreakpoints\":true,\"supportsLogPoints\":true,\
 \"supportsReadMemoryRequest\":true,\"supportsDisassembleRequest\":true,\"supportsRestartRequest\":true,\
-\"supportsEvaluateForHovers\":true,\"supportsSteppingGranularity\":true}";
+\"supportsEvaluateForHovers\":true,\"supportsSteppingGranularity\":true,\"supportsSetVariable\":true,\
+\"supportsWriteMemoryRequest\":true,\"supportsGotoTargetsRequest\":true}";
 
 /// What a `launch` request asks for.
 #[derive(Drop)]

@@ -114,6 +114,7 @@ fn notify(
     match standing.stop {
         Stop::Stepped => notify_stop(alloc, replies, "step", ""),
         Stop::Start => notify_stop(alloc, replies, "entry", "the start of the run"),
+        Stop::Jumped => notify_stop(alloc, replies, "goto", ""),
         Stop::Arrived(id) => notify_arrival(alloc, replies, id),
         Stop::Changed(span) | Stop::WillChange(span) => {
             let text = change_text(alloc, inspector, changer, span)?;

@@ -30,8 +30,10 @@ pub enum Command {
     ReadMemory,
     Disassemble,
     Evaluate,
-    /// A request that would change the machine, or skip instructions.
-    Change,
+    SetVariable,
+    WriteMemory,
+    GotoTargets,
+    Goto,
     Disconnect,
     Unknown,
 }
@@ -70,7 +72,10 @@ fn moving_command_of(name: &str) -> Command {
         "readMemory" => Command::ReadMemory,
         "disassemble" => Command::Disassemble,
         "evaluate" => Command::Evaluate,
-        "setVariable" | "writeMemory" | "gotoTargets" | "goto" => Command::Change,
+        "setVariable" => Command::SetVariable,
+        "writeMemory" => Command::WriteMemory,
+        "gotoTargets" => Command::GotoTargets,
+        "goto" => Command::Goto,
         "disconnect" | "terminate" => Command::Disconnect,
         _ => Command::Unknown,
     }

@@ -6,6 +6,9 @@ ghost use Rattle.a2_history.specs.Going.{here};
 ghost use Rattle.a2_dap.specs.Requests.{Reaches};
 
 use crate::breakpoints::{Place, refuse_marks, set_marks, set_watches, watch_info};
+use crate::changing::{
+    set, shown_value, target_setting, targets, variable_setting, write, writing_in,
+};
 use crate::evaluating::put_value;
 use crate::marking::{Mark, MarkKind, set_stops};
 use crate::memory::{instructions, memory};
@@ -18,10 +21,11 @@ use crate::request::{Command, Request, items_in, number_in, text_in};
 use crate::stacks::{file_name, stack};
 use crate::texts::text_of;
 use crate::variables::{scopes, variables};
-use a2_debugger::Inspector;
+use a2_debugger::{Inspector, Outcome, Setting};
 use a2_machine::{Cause, Machine};
 use a2_stream::Kept;
 use a2_symbols::Span;
+use a2_text::first_word;
 use serde_json::{Value, json};
 use std::alloc::{AllocError, Global};
 
@@ -202,9 +206,30 @@ fn place_in<'i>(inspector: &'i Inspector<'_>, first_line: u64) -> Place<'i> {
 const NO_VALUE: &str =
     "not a register, a name of the source, a line such as 12: or an address such as $300";
 
-// What a request is answered that would change the machine.
-const NO_CHANGE: &str =
-    "the run is exact: it cannot be changed, only stepped in both directions; type keys with `keys Q`";
+// What a request is answered whose new value is not valid.
+const VALUE_FORM: &str =
+    "not a value for this variable: a number such as $1F, 0x1F or 31, up to 255, for a flag 0 or 1; for PC a place";
+
+// What a request is answered whose bytes cannot be written.
+const WRITING_FORM: &str = "only bytes of $0000 to $BFFF can be written, at most 256 at once";
+
+// What a request is answered that could not be noted.
+const NO_ROOM: &str = "not changed: there is not enough memory";
+
+// Returns the answer that so many bytes were written.
+fn written(alloc: Global, bytes: u64) -> Result<Value, AllocError> {
+    json!(in alloc; {"bytesWritten": bytes})
+}
+
+// Returns whether the line of a debugger sets something, which is no step.
+fn is_setting(line: &[u8]) -> bool {
+    match first_word(line) {
+        Some((word, _)) => {
+            word.eq_ignore_ascii_case(b"SET") || word.eq_ignore_ascii_case(b"GOTO")
+        }
+        None => false,
+    }
+}
 
 // Returns the kind of breakpoints that a request sets.
 fn kind_of(command: Command) -> MarkKind {
@@ -371,15 +396,21 @@ impl<'a> Session<'a> {
         text
     }
 
-    // Reports a step, if the run has moved since it had made `steps` steps.
+    // Reports a step, so that the editor shows the run anew: if the run has moved since it had made `steps` steps, or if a line
+    // was to set something.
     #[tactic(auto, using(crate::proofs::Reaching::stays))]
-    fn report_move(&mut self, steps: u64, replies: &mut Replies) -> Result<(), AllocError>
+    fn report_move(
+        &mut self,
+        steps: u64,
+        sets: bool,
+        replies: &mut Replies,
+    ) -> Result<(), AllocError>
         ensures { Reaches self.old.inspector self.new.inspector }
     {
-        if self.inspector.machine().steps() == steps {
-            Ok(())
-        } else {
+        if sets || self.inspector.machine().steps() != steps {
             self.report(Stop::Stepped, replies)
+        } else {
+            Ok(())
         }
     }
 
@@ -395,7 +426,7 @@ impl<'a> Session<'a> {
         let steps = self.inspector.machine().steps();
         let text = self.say(line);
         let answered = respond_said(self.alloc, text, request, replies);
-        let reported = self.report_move(steps, replies);
+        let reported = self.report_move(steps, is_setting(line.as_bytes()), replies);
         both(answered, reported)
     }
 
@@ -461,7 +492,7 @@ impl<'a> Session<'a> {
             Command::Disassemble => instructions(alloc, &place, machine, arguments)?,
             Command::DataBreakpointInfo => Some(watch_info(alloc, place.program, request)?),
             Command::Pause => Some(json!(in alloc; {})?),
-            Command::Change => return replies.refuse(request, NO_CHANGE),
+            Command::GotoTargets => targets(alloc, &place, arguments)?,
             _ => return replies.refuse(request, "this request is not supported here"),
         };
         self.reply(answer, request, replies)
@@ -508,6 +539,75 @@ impl<'a> Session<'a> {
         respond_answer(body, request, replies)
     }
 
+    // Answers a request whose setting was made, with the value that is set, or refuses it if there was no memory to note it.
+    fn show_set(
+        &self,
+        outcome: Outcome,
+        request: &Request,
+        replies: &mut Replies,
+    ) -> Result<(), AllocError> {
+        if !matches!(outcome, Outcome::Changed(_)) {
+            return replies.refuse(request, NO_ROOM);
+        }
+        let (program, machine) = (self.inspector.program(), self.inspector.machine());
+        let value = shown_value(self.alloc, program, machine, request.arguments())?;
+        replies.respond(request, value)
+    }
+
+    // Sets a variable.
+    #[tactic(auto, using(crate::proofs::Reaching::stays))]
+    fn set_variable(&mut self, request: &Request, replies: &mut Replies) -> Result<(), AllocError>
+        ensures { Reaches self.old.inspector self.new.inspector }
+    {
+        match variable_setting(self.inspector.program(), request.arguments()) {
+            Some(setting) => {
+                let outcome = set(&mut self.inspector, setting);
+                self.show_set(outcome, request, replies)
+            }
+            None => replies.refuse(request, VALUE_FORM),
+        }
+    }
+
+    // Writes bytes.
+    #[tactic(auto, using(crate::proofs::Reaching::stays))]
+    fn write_memory(&mut self, request: &Request, replies: &mut Replies) -> Result<(), AllocError>
+        ensures { Reaches self.old.inspector self.new.inspector }
+    {
+        match writing_in(self.alloc, request.arguments())? {
+            Some(writing) => {
+                write(&mut self.inspector, &writing);
+                replies.respond(request, written(self.alloc, writing.bytes.len() as u64)?)
+            }
+            None => replies.refuse(request, WRITING_FORM),
+        }
+    }
+
+    // Sets PC, and reports the stop there.
+    fn jump(
+        &mut self,
+        setting: Setting,
+        request: &Request,
+        replies: &mut Replies,
+    ) -> Result<(), AllocError>
+        ensures { Reaches self.old.inspector self.new.inspector }
+    {
+        let _ = set(&mut self.inspector, setting);
+        let accepted = replies.accept(request);
+        let reported = self.report(Stop::Jumped, replies);
+        both(accepted, reported)
+    }
+
+    // Sets PC to the target of a request.
+    #[tactic(auto, using(crate::proofs::Reaching::stays))]
+    fn go_to(&mut self, request: &Request, replies: &mut Replies) -> Result<(), AllocError>
+        ensures { Reaches self.old.inspector self.new.inspector }
+    {
+        match target_setting(request.arguments()) {
+            Some(setting) => self.jump(setting, request, replies),
+            None => replies.refuse(request, "`goto` needs a target of `gotoTargets`"),
+        }
+    }
+
     /// Answers a request during a run.
     #[tactic(auto, using(crate::proofs::Reaching::stays))]
     pub fn answer(&mut self, request: &Request, replies: &mut Replies) -> Result<Next, AllocError>
@@ -530,6 +630,9 @@ impl<'a> Session<'a> {
             Command::SetExceptionBreakpoints => {
                 following(self.set_filters(request, replies), Next::Waiting)
             }
+            Command::SetVariable => following(self.set_variable(request, replies), Next::Waiting),
+            Command::WriteMemory => following(self.write_memory(request, replies), Next::Waiting),
+            Command::Goto => following(self.go_to(request, replies), Next::Waiting),
             Command::Evaluate => following(self.evaluate(request, replies), Next::Waiting),
             Command::StackTrace => following(self.show_stack(request, replies), Next::Waiting),
             Command::Restart => following(replies.accept(request), Next::Restart),

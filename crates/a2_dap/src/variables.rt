@@ -11,14 +11,14 @@ use a2_text::{decimal, hex_pair, hex_word};
 use serde_json::{Value, json};
 use std::alloc::{AllocError, Global};
 
-// The numbers of the groups.
-const REGISTERS: u64 = 1;
+/// The numbers of the groups.
+pub const REGISTERS: u64 = 1;
 
-const FLAGS: u64 = 2;
+pub const FLAGS: u64 = 2;
 
-const NAMES: u64 = 3;
+pub const NAMES: u64 = 3;
 
-const MONITOR: u64 = 4;
+pub const MONITOR: u64 = 4;
 
 const RUN: u64 = 5;
 
@@ -45,6 +45,16 @@ const LOCATIONS: [(&str, u16); 17] = [
     ("KSWL", KSW),
     ("KSWH", KSW + 1),
 ];
+
+/// Returns the Monitor's location with a name.
+pub fn location_named(name: &[u8]) -> Option<u16> {
+    for (known, address) in LOCATIONS {
+        if known.as_bytes() == name {
+            return Some(address);
+        }
+    }
+    None
+}
 
 // Returns a group.
 fn scope(alloc: Global, name: &str, number: u64) -> Result<Value, AllocError> {
