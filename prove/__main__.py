@@ -18,7 +18,7 @@ sys.path.insert(0, str(TOP))
 
 from prove import kit  # noqa: E402
 from prove.judging import Judge, prove, text_of  # noqa: E402
-from prove.refusal import Refusal  # noqa: E402
+from prove.source import Unread  # noqa: E402
 
 
 def stop(status, says):
@@ -44,14 +44,14 @@ def main(words):
     if not words or any(it.startswith("-") and it != "-" for it in words):
         stop(2, "usage: ./a2lab prove F [ROUTINE..]")
     try:
-        judge = Judge(source_of(words[0]))
-    except Refusal as refused:
-        stop(1, str(refused))
+        judge = Judge(source_of(words[0]), words[0])
+    except Unread as it:
+        return it.status
     unknown = [it for it in words[1:] if it not in {label for label, _ in judge.found}]
     if unknown:
         stop(2, f"{words[0]} has no routine {unknown[0]} with a promise")
     if not judge.found:
-        stop(1, f"{words[0]} has no promises; write lines such as `;: ensures A = old A + 1` before a routine's label")
+        stop(1, f"{words[0]} promises something only of its run; a2lab promise judges that")
     judge.prepare(words[1:])
     try:
         prove([judge], lambda: kit.room_of(TOP, tell))

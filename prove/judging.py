@@ -3,26 +3,26 @@
 from pathlib import Path
 
 from . import kit, saying
-from .assembling import Assembler
-from .promises import Promise, promises_of, without_run
 from .proofs import Proof, Routine
 from .refusal import Refusal
-from .trying import tried
-from .writing import PROGRAM_MARKS, S, Source, Written, write_crate
+from .source import Promise, Report
+from .terms import S
+from .writing import PROGRAM_MARKS, Source, Written, write_crate
 
 PROVED, NOT_PROVED, REFUSED = "PROVED", "NOT PROVED", "ERROR"
 STATUS = {PROVED: 0, REFUSED: 1, NOT_PROVED: 6}
+NO_STATE = "no state was found that meets `requires`"
+NO_LAID_STATE = f"{NO_STATE} with the bytes of the program unchanged"
 
 
 class Judge:
-    """Judges the routines of a source text, which has a name among those that are judged together."""
+    """Judges the routines of a source text in a file, with a name among those that are judged together."""
 
-    def __init__(self, text, name="source"):
-        lines = lines_of(text)
-        assembler = Assembler(lines)
-        self.program = assembler.program()
-        self.source = Source(name, text, [without_run(line) for line in lines], self.program)
-        self.found = promises_of(lines, assembler.lines, self.program)
+    def __init__(self, text, file, name="source"):
+        report = Report(text, file)
+        self.program = report.program
+        self.source = Source(name, text, report.lines, self.program)
+        self.found = report.promises()
         self.chosen, self.answers, self.tops, self.needed = [], {}, [], {}
         self.routines = {it.address: Routine(it) for _, it in self.found if isinstance(it, Promise)}
         self.written = {}
@@ -32,7 +32,7 @@ class Judge:
         self.chosen = [(label, it) for label, it in self.found if not names or label in names]
         promises = [it for _, it in self.chosen if isinstance(it, Promise)]
         self.look(promises)
-        self.try_states(promises)
+        self.meet(promises)
         self.write_proofs([it for it in promises if it.name not in self.answers])
 
     def report(self):
@@ -62,12 +62,12 @@ class Judge:
             if why:
                 yield clause, why
 
-    def try_states(self, promises):
+    def meet(self, promises):
+        """Refuses what fails in some state, and what no state meets: anything could be proved of that."""
         for promise in promises:
-            if promise.name not in self.answers:
-                says, promise.found = tried(self.program, promise)
-                if says:
-                    self.answers[promise.name] = (NOT_PROVED, says)
+            says = promise.fails or ("" if promise.met else NO_LAID_STATE if promise.is_kept else NO_STATE)
+            if says:
+                self.answers.setdefault(promise.name, (NOT_PROVED, says))
 
     # Proofs
 
@@ -139,9 +139,3 @@ def prove(judges, room_of):
 def text_of(path):
     """Returns the text of a source file, with one character for each byte."""
     return Path(path).read_bytes().decode("latin-1")
-
-
-def lines_of(text):
-    """Returns the lines of a text, without a carriage return at the end."""
-    lines = text.split("\n")
-    return [line.removesuffix("\r") for line in (lines[:-1] if lines[-1] == "" else lines)]

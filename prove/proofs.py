@@ -6,15 +6,12 @@ import copy
 import re
 
 from .arrays import MOST_CASES, Cut, Finder, Kept, Put, is_apart, span
-from .assembling import BRANCHES, RAM_END
-from .language import spelt
 from .refusal import Refusal
-from .services import SERVICES, TAKERS, Unproved, services_of, taker_of, why_unproved
+from .services import SERVICES, TAKERS, Unproved, services_of, spelt, taker_of, why_unproved
 from .saying import FLAGS, Words, constant, is_fact, is_minus, most, shape, signed_in
-from .promises import labels_in
+from .source import BRANCHES, RAM_END, cells_in, labels_in
 from .symbolic import Ground, Run, State, StateWords
 from .terms import add, bare, in_words, list_of, modulo, par
-from .trying import cells_in
 
 MOST_BRANCHES = 9
 # Up to how many numbers are tried one by one, if something is said about each number below another.
@@ -850,7 +847,7 @@ class Proof(Run):
         if kind in ("and", "or") and (kind == "and") == holds:
             second = one if kind == "and" else other
             return f"({self.proved_by(state, by, holds, facts, words)}, {self.proved_by(state, second, holds, facts, words)})"
-        if kind in ("and", "or") and has_each(e):
+        if kind in ("and", "or") and any(it[0] == "each" for it in parts_of(e)):
             raise Refusal(0, "a `for all` joined by `or` cannot be proved")
         if kind in ("and", "or"):
             return f"(grind ({', '.join(['arith', 'nat_tests', *facts])}))"
@@ -1010,35 +1007,18 @@ def is_in(ranges, address):
 
 # What does not hold if a test of two numbers has this result.
 OPPOSITE = {("eq", True): "{} ≢ {}", ("eq", False): "{} ≡ {}", ("le", True): "{1} < {0}", ("le", False): "{} ≤ {}"}
-# Opcodes of addressing modes whose address may be unknown. Those of each operation on A have the same distances as these.
-OPERATIONS = {"ORA": 0x00, "AND": 0x20, "EOR": 0x40, "ADC": 0x60, "STA": 0x80, "LDA": 0xA0, "CMP": 0xC0, "SBC": 0xE0}
-OPERATION_MODES = {"ZeroPageX": (0x15, 4), "AbsoluteX": (0x1D, 4), "AbsoluteY": (0x19, 4), "IndexedIndirect": (0x01, 6), "IndirectIndexed": (0x11, 5)}
-CHANGING = {"ASL": 0x00, "ROL": 0x20, "LSR": 0x40, "ROR": 0x60, "DEC": 0xC0, "INC": 0xE0}
-CHANGING_MODES = {"ZeroPageX": (0x16, 6), "AbsoluteX": (0x1E, 7)}
-OTHER_ROWS = {
-    ("LDX", "ZeroPageY"): ("fixed", 0xB6, 4),
-    ("LDX", "AbsoluteY"): ("page_crossing_row", 0xBE, 4),
-    ("LDY", "ZeroPageX"): ("fixed", 0xB4, 4),
-    ("LDY", "AbsoluteX"): ("page_crossing_row", 0xBC, 4),
-    ("STX", "ZeroPageY"): ("fixed", 0x96, 4),
-    ("STY", "ZeroPageX"): ("fixed", 0x94, 4),
-}
+# The cycles of modes whose address may be unknown.
+CYCLES = {"ZeroPageX": 4, "ZeroPageY": 4, "AbsoluteX": 4, "AbsoluteY": 4, "IndexedIndirect": 6, "IndirectIndexed": 5}
 PAGED = ("AbsoluteX", "AbsoluteY", "IndirectIndexed")
+CHANGING = ("ASL", "ROL", "LSR", "ROR", "DEC", "INC")
 
 
 def row_of(it):
     """Returns the row of an instruction in the table of opcodes."""
-    if it.mnemonic in OPERATIONS:
-        opcode, cycles = OPERATION_MODES[it.mode]
-        opcode += OPERATIONS[it.mnemonic]
-        word = "page_crossing_row" if it.mode in PAGED and it.mnemonic != "STA" else "fixed"
-        cycles += it.mnemonic == "STA" and it.mode in PAGED
-    elif it.mnemonic in CHANGING:
-        opcode, cycles = CHANGING_MODES[it.mode]
-        opcode, word = opcode + CHANGING[it.mnemonic], "fixed"
-    else:
-        word, opcode, cycles = OTHER_ROWS[it.mnemonic, it.mode]
-    return f"({word} {it.mnemonic.capitalize()} {it.mode} {opcode} {cycles})"
+    is_paged, is_changing = it.mode in PAGED, it.mnemonic in CHANGING
+    word = "page_crossing_row" if is_paged and not is_changing and it.mnemonic != "STA" else "fixed"
+    more = 2 + is_paged if is_changing else is_paged and it.mnemonic == "STA"
+    return f"({word} {it.mnemonic.capitalize()} {it.mode} {it.bytes[0]} {CYCLES[it.mode] + more})"
 
 
 def parts_of(e):
@@ -1051,10 +1031,6 @@ def parts_of(e):
 
 def without_old(e):
     return e[-1] if e[0] in ("old", "at") else e
-
-
-def has_each(e):
-    return any(it[0] == "each" for it in parts_of(e))
 
 
 def is_unrolled(e, state):

@@ -1,8 +1,7 @@
 """Why a source, or what it promises, is not judged."""
 
-# What else can be done with a promise that cannot be proved, or with a source that has errors.
+# What else can be done with a promise that cannot be proved.
 TRY_IT = "try it with a2lab promise"
-SEE_CHECK = "run ./a2lab check for details"
 
 
 class Refusal(Exception):

@@ -4,8 +4,8 @@ crates/a2_promise_rules/proofs/Saying.antt compute, and which expressions they c
 
 import copy
 
-from .assembling import RAM_END
 from .refusal import Refusal
+from .source import RAM_END
 from .terms import bare, par
 
 COMPARED = {"Equal": ("≡", "≢"), "Less": ("<", "≤"), "AtMost": ("≤", "<")}

@@ -1,20 +1,18 @@
 """The Monitor's services that a routine may call: what they need and what they leave, as in crates/a2_promise_rules/proofs/Calling.antt and
-Typing.antt, and what they do in a trial.
+Typing.antt.
 """
 
 import re
 from pathlib import Path
 from typing import NamedTuple
 
-from .language import Reader, spelt
-from .promises import Changes, Clause, Promise
 from .refusal import TRY_IT, Refusal
+from .source import Changes, Clause, Promise
 from .terms import list_of
-from .written import said
 
 CRATES = Path(__file__).resolve().parent.parent / "crates"
 SERVICE_ROW = re.compile(
-    r"^service_row (\w+) = row_at (?:0x(\w{4})|at\.(\w+)) need\.(\w+) reaches\.(\w+) span\.(\w+) set\.\w+ set\.(\w+) cells\.(\w+)$", re.M
+    r"^service_row (\w+) = row_at (?:0x(\w{4})|at\.(\w+)) need\.(\w+) reaches\.(\w+) span\.(\w+) set\.\w+ set\.(\w+) cells\.\w+$", re.M
 )
 LOCATION = re.compile(r"^(\w+) = 0x(\w{4})$", re.M)
 # The address of each hook, and the service to which it must lead.
@@ -29,7 +27,6 @@ class Row(NamedTuple):
     reach: str
     takes: str
     sets: str
-    on_screen: str
 
     @property
     def is_hook(self):
@@ -46,7 +43,6 @@ def rows():
 
 ROWS = rows()
 ADDRESSES = {name: row.address for name, row in ROWS.items()}
-HOOKS = {name for name, row in ROWS.items() if row.is_hook}
 WINDOW = ("$21 >= 1", "$20 + $21 <= 40", "$22 < $23", "$23 <= 24")
 CURSOR = (*WINDOW, "$25 < 24", "$20 + $24 < 40")
 # The hooks of output and input, if they lead to COUT1 and to KEYIN.
@@ -57,14 +53,38 @@ PLACE, BASE, MASK, PAGE, LINE = (0x24, 0x25), (0x28, 0x29), (0x32, 0x32), (0x400
 # What a service requires by its needs, or by its hook, and where it may store.
 WANTED = {"Nothing": (), "Key": (), "Window": WINDOW, "Cursor": CURSOR, "Line": CURSOR, "OutputHook": HOOK, "InputHook": KEY_HOOK}
 REACHED = {"Nowhere": (), "Mask": (MASK,), "Base": (BASE,), "Page": (PAGE,), "Screen": (PLACE, BASE, PAGE), "ScreenAndLine": (PLACE, BASE, LINE, PAGE)}
-BLANK, RETURN, FEED, BACKSPACE = 0xA0, 0x8D, 0x8A, 0x88
-# Where a line begins, how many keys it has at most, the key that ends it, and those that edit it.
-LINE_START, MOST_OF_LINE, RETURN_KEY = LINE[0], 255, 0x0D
+# Where a line begins, how many keys it has at most, the key that ends it and its byte, and the keys that edit it.
+LINE_START, MOST_OF_LINE, RETURN_KEY, RETURN = LINE[0], 255, 0x0D, 0x8D
 EDITING = {0x08: "a left arrow", 0x15: "a right arrow", 0x18: "Ctrl-X"}
+# Keys as they are spelled in a text of a promise.
+ESCAPED = {0x0D: "\\r", 0x08: "\\b", 0x15: "\\f", 0x18: "\\x", 0x5C: "\\\\"}
+
+
+def spelt(keys):
+    """Returns keys as a text in quotes."""
+    return '"' + "".join(ESCAPED.get(key, chr(key)) for key in keys) + '"'
+
+
+def number(text):
+    """Returns what a number, a byte, a word or a sum of two says."""
+    if " + " in text:
+        return ("pair", "Plus", *(number(part) for part in text.split(" + ")))
+    if text == "A":
+        return ("held", "A")
+    if text.startswith("word $") or text.startswith("$"):
+        return ("of", "Word" if text[0] == "w" else "Byte", ("number", int(text.split("$")[1], 16)))
+    return ("number", int(text[2:], 16) if text[0] == "#" else int(text))
+
+
+def comparison(text):
+    """Returns what a comparison says."""
+    left, sign, right = re.fullmatch("(.*) (>=|<=|<|=) (.*)", text).groups()
+    x, y = number(left), number(right)
+    return ("pair", "AtMost", y, x) if sign == ">=" else ("pair", {"<=": "AtMost", "<": "Less", "=": "Equal"}[sign], x, y)
 
 
 def clauses(texts):
-    return [Clause(0, 0, text, said(Reader(text, 0, 0, {}).expression().tree)) for text in texts]
+    return [Clause(0, 0, text, comparison(text)) for text in texts]
 
 
 class Service:
@@ -91,23 +111,11 @@ class Service:
         """Returns the proof that it keeps what is promised, if it is called with this S."""
         return f"({self.rule.replace('@', f'code {s} (omega arith)')})"
 
-    def fits(self, screen):
-        """Returns whether window, cursor and hook allow the call."""
-        if self.row.is_hook:
-            at, _ = LEADS[self.row.takes]
-            if screen.memory[at] + 256 * screen.memory[at + 1] != self.does.address:
-                return False
-        return (screen.is_window or WINDOW[0] not in self.wanted) and (screen.has_cursor or LEFT[0] not in self.wanted)
-
 
 SERVICES = {
     it.row.address: it
     for it in (
-        Service("HOME", LEFT),
-        Service("PRBYTE", LEFT),
-        Service("PRHEX", LEFT),
-        Service("COUT1", LEFT),
-        Service("COUT", LEFT),
+        *(Service(name, LEFT) for name in ("HOME", "PRBYTE", "PRHEX", "COUT1", "COUT")),
         Service("CROUT", (*LEFT, "A = 141"), {"A": (0x8D, "e3")}),
         Service("VTAB"),
         Service("CLREOL"),
@@ -184,122 +192,3 @@ def line_of(keys, line):
     if len(found) > MOST_OF_LINE:
         raise Unproved(line, f"GETLN gives up a line of more than {MOST_OF_LINE} keys, which cannot be proved yet; {TRY_IT}")
     return found
-
-
-class Screen:
-    """What services do with window, cursor and page 1 of a memory, and the addresses at which they store."""
-
-    def __init__(self, memory):
-        self.memory, self.stored = memory, set()
-        self.left, self.width, self.top, self.bottom = memory[0x20:0x24]
-
-    @property
-    def is_window(self):
-        return self.width >= 1 and self.left + self.width <= 40 and self.top < self.bottom <= 24
-
-    @property
-    def has_cursor(self):
-        return self.memory[0x25] < 24 and self.left + self.memory[0x24] < 40
-
-    def store(self, address, byte):
-        self.memory[address] = byte
-        self.stored.add(address)
-
-    def row(self, row):
-        return 0x400 + 128 * (row % 8) + 40 * (row // 8)
-
-    def feed(self):
-        if self.memory[0x25] + 1 < self.bottom:
-            self.store(0x25, self.memory[0x25] + 1)
-            return
-        for row in range(self.top, self.bottom):
-            for column in range(self.left, self.left + self.width):
-                below = self.memory[self.row(row + 1) + column] if row + 1 < self.bottom else BLANK
-                self.store(self.row(row) + column, below)
-
-    def back(self):
-        if self.memory[0x24]:
-            self.store(0x24, self.memory[0x24] - 1)
-            return
-        self.store(0x24, self.width - 1)
-        if self.top < self.memory[0x25]:
-            self.store(0x25, self.memory[0x25] - 1)
-
-    def put(self, byte):
-        self.put_unmasked(byte & self.memory[0x32] if byte >= BLANK else byte)
-
-    def put_unmasked(self, byte):
-        if byte == RETURN:
-            self.store(0x24, 0)
-            self.feed()
-        elif byte == FEED:
-            self.feed()
-        elif byte == BACKSPACE:
-            self.back()
-        elif not 0x80 <= byte < BLANK:
-            column = self.memory[0x24]
-            self.store(self.row(self.memory[0x25]) + self.left + column, byte)
-            self.store(0x24, column + 1)
-            if self.width <= column + 1:
-                self.store(0x24, 0)
-                self.feed()
-
-    def put_digit(self, digit):
-        self.put((0xB0 if digit < 10 else 0xB7) + digit)
-
-    def clear(self):
-        for row in range(self.top, self.bottom):
-            for column in range(self.left, self.left + self.width):
-                self.store(self.row(row) + column, BLANK)
-        self.store(0x24, 0)
-        self.store(0x25, self.top)
-
-    def clear_to_end(self):
-        for column in range(self.memory[0x24], self.width):
-            self.store(self.row(self.memory[0x25]) + self.left + column, BLANK)
-
-    def read(self, keys):
-        """Reads the keys of a line and RETURN, after its prompt."""
-        self.put(self.memory[0x33])
-        for at, byte in line_stores(keys[:-1]):
-            self.store(at, byte)
-            if byte == RETURN:
-                self.clear_to_end()
-            self.put_unmasked(byte)
-
-    def base(self):
-        """Returns BASL and BASH as output leaves them."""
-        at = self.row(self.memory[0x25]) + self.left
-        self.store(0x28, at & 255)
-        self.store(0x29, at >> 8)
-
-
-def served(it, registers, memory):
-    """Does what a service does. Returns the addresses at which it stores, or None if window, cursor or hook do not allow the call."""
-    screen = Screen(memory)
-    if not it.fits(screen):
-        return None
-    registers.update({letter: number for letter, (number, _) in it.known.items()})
-    if it.byte:
-        screen.store(*it.byte)
-    show(it, registers, screen)
-    if BASE in it.promise.changes.ranges:
-        screen.base()
-    return screen.stored
-
-
-def show(it, registers, screen):
-    """Does what a service does with cells of the screen; a hook does what the service that it goes to does."""
-    does = it.does.on_screen
-    if does == "ReadsLine":
-        screen.read(it.promise.keys)
-    if does == "ClearsWindow":
-        screen.clear()
-    if does == "ClearsToEnd":
-        screen.clear_to_end()
-    if does == "PutsDigits":
-        screen.put_digit(registers["A"] >> 4)
-    if does in ("PutsDigits", "PutsDigit"):
-        screen.put_digit(registers["A"] & 15)
-    if does == "PutsByte":
-        screen.put(registers["A"])

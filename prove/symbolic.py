@@ -6,9 +6,9 @@ import copy
 import re
 from typing import NamedTuple
 
-from .assembling import RAM_END
 from .refusal import Refusal
 from .saying import BYTES, FLAGS, Words
+from .source import RAM_END
 from .terms import add, modulo, par
 
 ONES = re.compile(r"0*1+0*")

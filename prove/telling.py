@@ -1,10 +1,13 @@
 """What the lines before a routine's label say, written for the prover, which computes it from the text: each line as a `Line` of
 crates/a2_promise/specs/PromisedTerms.antt, and what all of them say as `Terms`.
+
+What a line says as it is written is a tree: a tuple that begins with the name of its form in crates/a2_promise/specs/Written.antt. A word or
+number in it is a list of its kind and its text.
 """
 
 from .saying import phrase
+from .source import FACTS
 from .terms import codes, flag, list_of
-from .written import part_term, written
 
 USES = """use Rattle.std.specs.Prelude.{◌≡◌, ℕ, pos, true, false, List, [], ◌∷◌, codes, refl}
 use Rattle.a2_promise.specs.declared.expr.Atom.TheVariants as atom
@@ -23,14 +26,38 @@ use Rattle.a2_promise.specs.Written as written
 use Rattle.a2_promise_rules.proofs.StatedTerms.{not_nothing, spells_keys}
 use %s.Program.{lines, names}
 """
-FACTS = ("requires", "ensures")
+RELATIONS = {"=": "Equal", "<>": "Other", "<": "Less", "<=": "AtMost", ">": "More", ">=": "AtLeast"}
+OPERATIONS = {"|": "BitOr", "^": "BitXor", "&": "BitAnd", "+": "Plus", "-": "Minus", "*": "Times", "/": "Over", "%": "Modulo"}
 NOTHING = "(_, refl, refl)"
 SOMETHING = "(_, refl, (refl, refl, not_nothing _ refl))"
 UNDERWAY = "(_, _, refl, refl, refl)"
 SPELT = "record {{ rest = _; inner = {0}; begins = refl; is_quoted = refl; spells = spells_keys {0} {1} refl }}"
 
 
-def change(form, *parts):
+def infix(sign):
+    if sign in RELATIONS:
+        return f"(join.Compare relation.{RELATIONS[sign]})"
+    return f"(join.Apply operation.{OPERATIONS[sign]})" if sign in OPERATIONS else f"join.{sign.capitalize()}"
+
+
+def part_term(part):
+    if isinstance(part, list):
+        return f"(token.{part[0]} {codes(part[1])})"
+    if isinstance(part, tuple):
+        return written(part)
+    return str(part) if isinstance(part, int) else codes(part)
+
+
+def written(tree):
+    """Returns a tree as a term."""
+    form, *parts = tree
+    if form == "atom":
+        return f"(written.atom atom.{parts[0]})"
+    terms = [infix(parts.pop(0))] if form == "joined" else []
+    return f"(written.{form} {' '.join(terms + [part_term(it) for it in parts])})"
+
+
+def change(form, _, *parts):
     if form == "held":
         return f"told.held atom.{parts[0]}"
     return f"told.{form} {' '.join(part_term(it) for it in parts)}"
@@ -45,10 +72,6 @@ def terms_of(promise):
     fields.append(f"ranges = {list_of(f'({first}, {last})' for first, last in promise.changes.ranges)}")
     takes = list_of(list_of(line.says) for line in promise.lines if line.verb == "takes")
     return fields + ["prints = []", f"takes = {takes}"]
-
-
-def between_quotes(text):
-    return text[text.index('"') + 1 : text.rindex('"')]
 
 
 class Told:
@@ -79,7 +102,7 @@ class Told:
             proof = SOMETHING if line.says else NOTHING
         elif line.verb == "takes":
             text, what = "", f"told.takes {list_of(line.says)}"
-            proof = SPELT.format(codes(between_quotes(line.text)), list_of(line.says))
+            proof = SPELT.format(codes(line.text[line.text.index('"') + 1 : line.text.rindex('"')]), list_of(line.says))
         else:
             text, what, proof = "", f"told.underway (tokens {codes(line.text)})", UNDERWAY
         text += f"abbrev line_{k} : Line\nline_{k} = {what}\n\n"

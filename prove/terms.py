@@ -2,6 +2,9 @@
 
 import re
 
+# S when a routine is entered.
+S = 0xFD
+
 
 def is_closed(text):
     """Returns whether a text is in one pair of parentheses."""

@@ -8,7 +8,7 @@ from functools import cached_property
 from .meeting import Met
 from .saying import Words, is_minus
 from .telling import Told
-from .terms import codes, list_of
+from .terms import S, codes, list_of
 
 CRATE = "promised"
 # The crates that it uses.
@@ -16,7 +16,6 @@ BELOW = (
     "a2_promise_rules a2_theorems a2_promise_certify a2_footprint a2_promise a2_run a2_text a2_stream a2_opcode "
     "a2_syntax a2_hex a2_asm a2_page a2_bus a2_effect a2_cpu a2_burst a2_services a2_machine"
 )
-S = 0xFD
 LINE = re.compile(r"[^\n]*\n|[^\n]+")
 
 STATEMENT_USES = """use Rattle.std.specs.Prelude.{ℕ, List, [], ◌∷◌, codes}
@@ -176,7 +175,7 @@ def program_file(source):
     text += "\nabbrev pub code : Code\ncode = code_of listing\n"
     text += rows("lines", "List (List ℕ)", (codes(line) for line in source.lines))
     text += rows("names", "Names", (f"({codes(name)}, {value})" for name, value in program.names.items()))
-    text += computed(0, "read", f"entry_of text ≡ Some {program.entry()}", "reading")
+    text += computed(0, "read", f"entry_of text ≡ Some {program.entry}", "reading")
     text += computed(1, "stated", "statements_of text ≡ listing", "reading")
     text += rows("laid", "Laid", (laid(it) for it in program.statements))
     text += computed(2, "cut", "lines_of_routines text ≡ lines", "first_word")

@@ -3,7 +3,9 @@
 use crate::broken::{Broken, Unmet};
 use crate::exit::{Exit, TracedStep};
 use crate::verdict::Failure;
-use crate::wording::{put_address, put_input, put_line, put_number, put_signed, put_text};
+use crate::wording::{
+    put_address, put_input, put_line, put_named, put_number, put_signed, put_text,
+};
 use a2_asm::Program;
 use a2_cpu::Regs;
 use a2_hex::RAM_END;
@@ -158,13 +160,12 @@ fn put_text_claim<W: Output>(
     put_all(&[text.written], output)
 }
 
-/// Writes on one line, without a line end, `FAILS: ` and the part of a promise that is not kept.
-pub(crate) fn put_claim<W: Output>(
+// Writes on one line, without a line end, the part of a promise that is not kept.
+fn put_unkept<W: Output>(
     promise: &Promise,
     failure: &Failure,
     output: &mut W,
 ) -> Result<(), WriteFault> {
-    put_all(&[b"FAILS: "], output)?;
     match failure.broken {
         Broken::Left(exit) => put_exit(exit, output),
         Broken::Line(line, unmet) => put_line_claim(promise, line, unmet, output),
@@ -183,6 +184,16 @@ pub(crate) fn put_claim<W: Output>(
             put_change(Input::Byte(address), before, following, output)
         }
     }
+}
+
+/// Writes on one line, without a line end, `FAILS: ` and the part of a promise that is not kept.
+pub(crate) fn put_claim<W: Output>(
+    promise: &Promise,
+    failure: &Failure,
+    output: &mut W,
+) -> Result<(), WriteFault> {
+    put_all(&[b"FAILS: "], output)?;
+    put_unkept(promise, failure, output)
 }
 
 // Writes why a clause is not met, on a line of its own.
@@ -217,19 +228,66 @@ fn put_details<W: Output>(failure: &Failure, output: &mut W) -> Result<(), Write
     }
 }
 
-/// Writes on one line, without a line end, the state in which a routine is entered: the inputs that its promise
-/// names, and any others that are not 0.
+// Returns how many bytes in a row, from an address on, begin these inputs and have this value.
+fn alike_from(inputs: &[Input], values: &[u8], first: u16, value: u8) -> usize {
+    for (count, (input, byte)) in inputs.iter().zip(values).enumerate() {
+        match *input {
+            Input::Byte(address)
+                if usize::from(address) == usize::from(first).saturating_add(count)
+                    && *byte == value => {}
+            _ => return count,
+        }
+    }
+    inputs.len()
+}
+
+// From how many bytes in a row a range is written.
+const LEAST_RANGE: usize = 3;
+
+// Writes the first of these inputs, or the bytes in a row that begin with it, and their value. Returns how many inputs
+// are written.
+fn put_first<W: Output>(
+    program: &Program<Global>,
+    inputs: &[Input],
+    values: &[u8],
+    output: &mut W,
+) -> Result<usize, WriteFault> {
+    let ([input, ..], [value, ..]) = (inputs, values) else {
+        return Ok(1);
+    };
+    let count = match *input {
+        Input::Byte(first) => alike_from(inputs, values, first, *value),
+        _ => 1,
+    };
+    match *input {
+        Input::Byte(first) if count >= LEAST_RANGE => {
+            let further = (count.saturating_sub(1) % 65536) as u16;
+            put_address(b" ", first, output)?;
+            put_address(b"..", first.wrapping_add(further), output)?;
+        }
+        one => put_named(program, b" ", one, output)?,
+    }
+    put_number(b"=", u64::from(*value), b"", output)?;
+    Ok(if count >= LEAST_RANGE { count } else { 1 })
+}
+
+/// Writes on one line, without a line end, the state in which a routine is entered: all that its promise names or its
+/// routine reads, the bytes that an unmet clause reads, and any other register or flag that is not 0.
 pub(crate) fn put_entry_state<W: Output>(
+    program: &Program<Global>,
     failure: &Failure,
     output: &mut W,
 ) -> Result<(), WriteFault> {
+    let mut written: usize = 0;
     let mut is_any = false;
     put_all(&[b"it starts with"], output)?;
     for (index, input) in failure.inputs.iter().enumerate() {
-        let value = failure.values.as_slice().get(index).copied().unwrap_or(0);
-        if index < failure.named || value != 0 {
-            put_input(b" ", *input, output)?;
-            put_number(b"=", u64::from(value), b"", output)?;
+        let inputs = failure.inputs.as_slice().get(index..).unwrap_or(&[]);
+        let values = failure.values.as_slice().get(index..).unwrap_or(&[]);
+        let is_read = index < failure.looked || matches!(input, Input::Byte(_));
+        if index >= written && (is_read || matches!(values, [1..=255, ..])) {
+            let count = put_first(program, inputs, values, output)?;
+            written = index.saturating_add(count);
             is_any = true;
         }
     }
@@ -286,7 +344,7 @@ fn put_step<W: Output>(
     put_all(&[b"\n"], output)
 }
 
-/// Writes the report of a state in which a promise does not hold, for a source with these lines.
+/// Writes the report of a state in which a promise does not hold, after `FAILS: `, for a source with these lines.
 pub(crate) fn put_failure<W: Output>(
     program: &Program<Global>,
     lines: &[&[u8]],
@@ -294,11 +352,11 @@ pub(crate) fn put_failure<W: Output>(
     failure: &Failure,
     output: &mut W,
 ) -> Result<(), WriteFault> {
-    put_claim(promise, failure, output)?;
+    put_unkept(promise, failure, output)?;
     put_all(&[b"\n"], output)?;
     put_details(failure, output)?;
     put_all(&[b"  "], output)?;
-    put_entry_state(failure, output)?;
+    put_entry_state(program, failure, output)?;
     put_all(&[b"\n  the last steps:\n"], output)?;
     for step in &failure.last {
         put_step(program, lines, step, output)?;

@@ -2,6 +2,7 @@
 
 use crate::failure_report::{put_claim, put_entry_state};
 use crate::verdict::{Failure, PromiseVerdict};
+use a2_asm::Program;
 use a2_promise::Promise;
 use a2_run::RunFault;
 use a2_stream::{ToWrite, put_all};
@@ -25,6 +26,7 @@ pub struct FirstFailure {
 // Returns the failure of a promise as a value.
 fn failure_as_value(
     alloc: Global,
+    program: &Program<Global>,
     promise: &Promise,
     failure: Failure,
 ) -> Result<FirstFailure, RunFault> {
@@ -33,7 +35,7 @@ fn failure_as_value(
     put_all(&[promise.name, b": "], &mut output)?;
     put_claim(promise, &failure, &mut output)?;
     let mut entered = Vec::new(alloc);
-    put_entry_state(&failure, &mut ToWrite::new(&mut entered))?;
+    put_entry_state(program, &failure, &mut ToWrite::new(&mut entered))?;
     Ok(FirstFailure {
         routine: Vec::from_slice(alloc, promise.name)?,
         address: promise.address,
@@ -47,11 +49,14 @@ fn failure_as_value(
 /// Fails only if memory runs out.
 pub(crate) fn failure_in(
     alloc: Global,
+    program: &Program<Global>,
     promise: &Promise,
     verdict: PromiseVerdict,
 ) -> Result<Option<FirstFailure>, RunFault> {
     match verdict {
-        PromiseVerdict::Fails(failure) => Ok(Some(failure_as_value(alloc, promise, failure)?)),
+        PromiseVerdict::Fails(failure) => Ok(Some(failure_as_value(
+            alloc, program, promise, failure,
+        )?)),
         _ => Ok(None),
     }
 }

@@ -7,8 +7,8 @@ use a2_promise::{Atom, Changes, Clause, Expr, Function, Promise};
 use a2_promise_certify::{Input, may_change, number_of, settled_byte};
 use std::alloc::{AllocError, Global};
 
-// The registers and flags of a state.
-const REGISTERS: [Input; 8] = [
+/// The registers and flags of a state.
+pub(crate) const REGISTERS: [Input; 8] = [
     Input::A,
     Input::X,
     Input::Y,
@@ -41,18 +41,26 @@ impl Inputs {
     }
 }
 
+/// Returns whether an input is among these.
+pub(crate) fn is_among(inputs: &[Input], input: Input) -> bool {
+    for known in inputs {
+        if *known == input {
+            return true;
+        }
+    }
+    false
+}
+
 /// Adds an input, unless it is already there.
 pub(crate) fn add(inputs: &mut Vec<Input>, input: Input) -> Result<(), AllocError> {
-    for known in inputs.as_slice() {
-        if *known == input {
-            return Ok(());
-        }
+    if is_among(inputs.as_slice(), input) {
+        return Ok(());
     }
     Ok(inputs.push(input)?)
 }
 
-// Returns the input for a register or flag. S, D and the counts of the run are not inputs.
-fn input_of(atom: Atom) -> Option<Input> {
+/// Returns the input for a register or flag. S, D and the counts of the run are not inputs.
+pub(crate) fn input_of(atom: Atom) -> Option<Input> {
     match atom {
         Atom::A => Some(Input::A),
         Atom::X => Some(Input::X),

@@ -44,6 +44,8 @@ struct Mark {
     /// Whether its contents at the entry are known: either the byte is one of the values tried, or it is the same in
     /// each run.
     is_known: bool,
+    /// Whether the program lays a byte of data there that is not varied, and no run has read it yet.
+    is_laid: bool,
     /// Whether a routine with a promise begins there.
     is_entry: bool,
 }
@@ -73,6 +75,12 @@ pub(crate) struct TrialMachine {
     /// What the runs read before it was set and without it being known at the entry. Each is recorded once, and at
     /// most 1,024 in all.
     pub looked: Vec<Input>,
+    /// The bytes of data that the program lays and that runs read before they were set.
+    pub laid: Vec<u16>,
+    /// The first service that a run called.
+    pub service: Option<u16>,
+    /// Whether a run used TSX or TXS.
+    pub has_moved_s: bool,
     /// Where a run first continued into another routine.
     pub fall_through: Option<FallThrough>,
     /// What the run printed, if this is recorded.
@@ -96,6 +104,9 @@ impl Drop for TrialMachine {
             stored: _,
             set: _,
             looked: _,
+            laid: _,
+            service: _,
+            has_moved_s: _,
             fall_through: _,
             printed: _,
             is_heard: _,
@@ -112,6 +123,7 @@ const NO_MARK: Mark = Mark {
     instr: None,
     is_code: false,
     is_known: false,
+    is_laid: false,
     is_entry: false,
 };
 
@@ -119,8 +131,8 @@ const NO_MARK: Mark = Mark {
 fn mark_program(marks: &mut [Mark], program: &Program<Global>) {
     for address in 0..RAM_END {
         if let Some(mark) = marks.get_mut(usize::from(address)) {
-            mark.is_known = program.image().get(address).is_some()
-                || LAST_RETURN <= address && address <= LAST_RETURN + 1;
+            mark.is_laid = program.image().get(address).is_some();
+            mark.is_known = mark.is_laid || LAST_RETURN <= address && address <= LAST_RETURN + 1;
         }
     }
     for statement in program.statements() {
@@ -131,13 +143,17 @@ fn mark_program(marks: &mut [Mark], program: &Program<Global>) {
             if let Some(mark) = marks.get_mut(address) {
                 mark.instr = if address == first { instr } else { None };
                 mark.is_code = instr.is_some();
+                mark.is_laid = mark.is_laid && !mark.is_code;
             }
         }
     }
 }
 
-// Returns RAM and devices with this image laid, and the caller's return address on the stack.
-fn entered(alloc: Global, image: &Image<Global>) -> Result<AddressSpace<Global>, AllocError> {
+/// Returns RAM and devices with this image laid, and the caller's return address on the stack.
+pub(crate) fn entered(
+    alloc: Global,
+    image: &Image<Global>,
+) -> Result<AddressSpace<Global>, AllocError> {
     let mut space = AddressSpace::new(alloc)?;
     space.load(image);
     let [low, high] = (RETURN_ADDRESS - 1).to_le_bytes();
@@ -182,6 +198,9 @@ impl TrialMachine {
             stored: Stored::new(alloc)?,
             set: Stored::new(alloc)?,
             looked: Vec::new(alloc),
+            laid: Vec::new(alloc),
+            service: None,
+            has_moved_s: false,
             fall_through: None,
             printed: Vec::new(alloc),
             is_heard: false,
@@ -224,6 +243,7 @@ impl TrialMachine {
         if let Input::Byte(address) = input {
             if let Some(mark) = self.marks.get_mut(usize::from(address)) {
                 mark.is_known = true;
+                mark.is_laid = false;
             }
         } else if let Some(part) = input.part() {
             self.known.add(part);
@@ -281,12 +301,23 @@ impl TrialMachine {
         Ok(())
     }
 
+    // Records the first read of a byte that the program lays.
+    fn record_laid(&mut self, address: u16) -> Result<(), AllocError> {
+        if let Some(mark) = self.marks.get_mut(usize::from(address)) {
+            mark.is_laid = false;
+        }
+        Ok(self.laid.push(address)?)
+    }
+
     // Records reads of memory.
     fn note_reads(&mut self, addresses: &[u16]) -> Result<(), Stop> {
         for address in addresses {
             match self.mark(*address) {
                 None if self.is_keyboard(*address) => {}
                 None => return Err(Stop::Left(Exit::Read(*address))),
+                Some(mark) if mark.is_laid && !is_set(self.set.marks(), *address) => {
+                    self.record_laid(*address)?;
+                }
                 Some(mark) if mark.is_known || is_set(self.set.marks(), *address) => {}
                 Some(_) => self.record_input(Input::Byte(*address))?,
             }
@@ -333,6 +364,9 @@ impl TrialMachine {
 
     // Calls the service at PC, and adds its cycles.
     fn call_service(&mut self, service: Service, run: &mut TrialRun) -> Result<(), Stop> {
+        if self.service.is_none() {
+            self.service = Some(run.regs.pc);
+        }
         self.note_parts(registers_read_by(service))?;
         self.note_reach(service)?;
         let printed = self.printed.len();
@@ -355,6 +389,8 @@ impl TrialMachine {
 
     // Executes an instruction, and adds its cycles.
     fn execute_instr(&mut self, instr: Instr, run: &mut TrialRun) -> Result<(), Stop> {
+        self.has_moved_s = self.has_moved_s
+            || matches!(instr.mnemonic, Mnemonic::Tsx | Mnemonic::Txs);
         self.record_inputs_of(instr, &run.regs)?;
         self.note_stores(&run.regs)?;
         let mut regs = run.regs;

@@ -29,10 +29,20 @@ pub(crate) fn enter(
     address: u16,
 ) -> Regs {
     machine.restore();
+    for (input, value) in inputs.iter().zip(values) {
+        if let Input::Byte(place) = *input {
+            machine.set(place, *value);
+        }
+    }
+    regs_at_entry(inputs, values, address)
+}
+
+/// Returns the registers with which the routine at an address is entered, if the inputs have these values.
+pub(crate) fn regs_at_entry(inputs: &[Input], values: &[u8], address: u16) -> Regs {
     let mut live = Live::of(&Regs::start(address));
     for (input, value) in inputs.iter().zip(values) {
         match *input {
-            Input::Byte(place) => machine.set(place, *value),
+            Input::Byte(_) => {}
             register => put_register(register, *value, &mut live),
         }
     }

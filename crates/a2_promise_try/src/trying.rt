@@ -7,17 +7,21 @@ ghost use Rattle.a2_promise_try.specs.Certain.{IsCertain, most_steps};
 ghost use Rattle.a2_promise_try.specs.Printing.{HasNoText};
 
 use crate::broken::Broken;
-use crate::named_inputs::{Inputs, inputs_of, named_by};
+use crate::exit::TrialRun;
+use crate::named_inputs::{Inputs, inputs_of, is_among, named_by};
 use crate::printing::has_no_text;
+use crate::reads_of::{Between, add_read, bytes_of};
 use crate::shrinking::shrink_values;
 use crate::trial_machine::{
     MAX_INPUTS_READ, ROUTINE_MAX_STEPS, TrialMachine, keys_taken, last_steps,
 };
-use crate::trial_states::{Tried, enter, put_values, try_state};
-use crate::verdict::{Failure, Held, PromiseVerdict, Trials};
+use crate::trial_states::{Tried, enter, put_values, regs_at_entry, try_state};
+use crate::verdict::{Doubt, Failure, Held, PromiseVerdict, Trials};
 use a2_asm::Program;
-use a2_promise::{Found, Promise};
-use a2_promise_certify::{Input, holds_in_every_state};
+use a2_bus::Bus;
+use a2_cpu::Regs;
+use a2_promise::{Atom, Clause, Expr, Found, Promise};
+use a2_promise_certify::{Input, NO_NAMES, holds_in_every_state, sight_of};
 use std::alloc::{AllocError, Global};
 
 // Returns the text to report for a failure: what was printed, or the keys that are left.
@@ -35,6 +39,67 @@ fn report_text(machine: &TrialMachine, broken: Broken) -> Result<Vec<u8>, AllocE
     Ok(told)
 }
 
+// Returns the clause in a line of a promise.
+fn clause_in<'p, 'a>(promise: &'p Promise<'a>, line: usize) -> Option<&'p Clause<'a>> {
+    for clause in promise.promised.as_slice() {
+        if clause.line == line {
+            return Some(clause);
+        }
+    }
+    None
+}
+
+// Inputs, each with its value at the entry.
+#[derive(Drop)]
+struct Entered {
+    inputs: Vec<Input>,
+    values: Vec<u8>,
+}
+
+// Returns the bytes that a run looked at, except the inputs that are varied, and those that the clause reads that it
+// broke, given the registers at its entry.
+fn bytes_read(
+    machine: &TrialMachine,
+    promise: &Promise,
+    regs: Regs,
+    broken: Broken,
+    run: &TrialRun,
+) -> Result<Vec<u16>, AllocError> {
+    let mut read = Vec::from_slice(machine.alloc, machine.looked.as_slice())?;
+    if let Broken::Line(line, _) = broken
+        && let Some(clause) = clause_in(promise, line)
+    {
+        let between = Between {
+            entry: sight_of(&regs, &machine.before, 0, 0),
+            exit: sight_of(&run.regs, &machine.now, run.cycles, run.steps),
+        };
+        add_read(&mut read, &between, &clause.expr, NO_NAMES)?;
+    }
+    bytes_of(machine.alloc, read.as_slice())
+}
+
+// Returns inputs and these bytes, all with their values at the entry.
+fn entered_with(
+    machine: &TrialMachine,
+    inputs: &[Input],
+    values: &[u8],
+    bytes: &[u16],
+) -> Result<Entered, AllocError> {
+    let mut entered = Entered {
+        inputs: Vec::from_slice(machine.alloc, inputs)?,
+        values: Vec::from_slice(machine.alloc, values)?,
+    };
+    for address in bytes {
+        if !is_among(inputs, Input::Byte(*address)) {
+            entered.inputs.push(Input::Byte(*address))?;
+            entered
+                .values
+                .push(machine.before.peek(*address).unwrap_or(0))?;
+        }
+    }
+    Ok(entered)
+}
+
 // Collects what is reported of a state that breaks the promise.
 fn failure_of(
     machine: &mut TrialMachine,
@@ -43,16 +108,23 @@ fn failure_of(
     values: &[u8],
 ) -> Result<PromiseVerdict, AllocError> {
     let all = inputs.all.as_slice();
+    machine.looked.clear();
     let Tried::Broken(broken, run) = try_state(machine, promise, all, values)? else {
         return Ok(PromiseVerdict::NoState(0));
     };
     let told = report_text(machine, broken)?;
+    let regs = regs_at_entry(all, values, promise.address);
+    let bytes = bytes_read(machine, promise, regs, broken, &run)?;
+    let Entered {
+        inputs: shown,
+        values: shown_values,
+    } = entered_with(machine, all, values, bytes.as_slice())?;
     let regs = enter(machine, all, values, promise.address);
     let last = last_steps(machine, regs, run.steps)?;
     Ok(PromiseVerdict::Fails(Failure {
-        inputs: Vec::from_slice(machine.alloc, all)?,
-        named: inputs.named,
-        values: Vec::from_slice(machine.alloc, values)?,
+        inputs: shown,
+        looked: inputs.varied().len(),
+        values: shown_values,
         keys: keys_taken(&promise.texts),
         broken,
         fall_through: machine.fall_through,
@@ -63,12 +135,64 @@ fn failure_of(
     }))
 }
 
+// Returns whether a clause of a promise says something about S or D.
+fn says_atom(clauses: &[Clause], atom: Atom) -> bool {
+    for clause in clauses {
+        if has_atom(&clause.expr, atom) {
+            return true;
+        }
+    }
+    false
+}
+
+// Returns whether two of S and D are the same.
+fn are_same(one: Atom, other: Atom) -> bool {
+    matches!(
+        (one, other),
+        (Atom::S, Atom::S) | (Atom::Decimal, Atom::Decimal)
+    )
+}
+
+// Returns whether an expression names S or D.
+fn has_atom(expr: &Expr, atom: Atom) -> bool {
+    match expr {
+        Expr::Number(_) | Expr::Bound(_) => false,
+        Expr::Held(held) => are_same(*held, atom),
+        Expr::Old(of) | Expr::At(_, of) | Expr::Of(_, of) => has_atom(of, atom),
+        Expr::Pair(_, left, right) | Expr::Each(_, left, right) | Expr::Sum(_, left, right) => {
+            has_atom(left, atom) || has_atom(right, atom)
+        }
+        Expr::Choice(by, one, other) => {
+            has_atom(by, atom) || has_atom(one, atom) || has_atom(other, atom)
+        }
+    }
+}
+
+// Returns why a promise that held in every state tried may not be known to hold in every state.
+fn doubt_of(machine: &TrialMachine, promise: &Promise) -> Doubt {
+    let (wanted, promised) = (promise.wanted.as_slice(), promise.promised.as_slice());
+    if !promise.texts.prints.is_empty() {
+        Doubt::Prints
+    } else if !promise.texts.takes.is_empty() {
+        Doubt::Takes
+    } else if machine.has_moved_s || says_atom(wanted, Atom::S) || says_atom(promised, Atom::S) {
+        Doubt::Stack
+    } else if says_atom(wanted, Atom::Decimal) || says_atom(promised, Atom::Decimal) {
+        Doubt::Decimal
+    } else if let Some(service) = machine.service {
+        Doubt::Service(service)
+    } else {
+        Doubt::Other
+    }
+}
+
 /// The least number of trials, so that inputs that are not named take several values.
 pub(crate) const LEAST_TRIED: u64 = 4096;
 
 // Returns the verdict on a promise that was kept in this many states and broken in none.
 fn unbroken(
     machine: &TrialMachine,
+    promise: &Promise,
     inputs: &Inputs,
     kept: u64,
     tried: u64,
@@ -82,6 +206,8 @@ fn unbroken(
         tried,
         total: inputs.states,
         is_everywhere: false,
+        doubt: doubt_of(machine, promise),
+        laid: Vec::from_slice(machine.alloc, machine.laid.as_slice())?,
         fall_through: machine.fall_through,
     }))
 }
@@ -117,7 +243,7 @@ fn try_inputs(
             return Ok(None);
         }
     }
-    Ok(Some(unbroken(machine, inputs, kept, states)?))
+    Ok(Some(unbroken(machine, promise, inputs, kept, states)?))
 }
 
 // Creates the machine for the routine of a promise, given all promises found.

@@ -17,9 +17,10 @@ pub struct Trials {
 
 /// A state in which a promise does not hold.
 pub struct Failure {
-    /// The inputs at the entry; the first `named` of them are those that the promise names.
+    /// The inputs at the entry; the first `looked` of them are those that the promise names or its routine reads. The
+    /// registers and flags that are left follow, and then the other bytes that the run or the unmet clause reads.
     pub inputs: Vec<Input>,
-    pub named: usize,
+    pub looked: usize,
     /// The value of each input.
     pub values: Vec<u8>,
     /// The keys that are typed at the entry.
@@ -39,7 +40,7 @@ impl Drop for Failure {
     fn drop(self) {
         let Failure {
             inputs: _,
-            named: _,
+            looked: _,
             values: _,
             keys: _,
             broken: _,
@@ -52,6 +53,22 @@ impl Drop for Failure {
     }
 }
 
+/// Why a promise that held in every state tried is not known to hold in every state.
+#[derive(Clone, Copy)]
+pub enum Doubt {
+    /// It says what is printed.
+    Prints,
+    /// It says which keys are taken.
+    Takes,
+    /// It says something about S, or the routine uses TSX or TXS; S is $FD in each state tried.
+    Stack,
+    /// It says something about D, which is clear in each state tried.
+    Decimal,
+    /// The routine calls the service at this address.
+    Service(u16),
+    Other,
+}
+
 /// A promise that held in `kept` states out of `tried`, and these inputs have `total` states in all. The inputs are
 /// those that the promise names and those that its routine reads. An input that the requirements settle has one
 /// value. `is_everywhere` says whether the promise is known to hold in every world at the routine's entry.
@@ -62,6 +79,10 @@ pub struct Held {
     pub tried: u64,
     pub total: u64,
     pub is_everywhere: bool,
+    /// Why it is not, if it is not.
+    pub doubt: Doubt,
+    /// The addresses of bytes that the program lays and that runs read as they are laid.
+    pub laid: Vec<u16>,
     pub fall_through: Option<FallThrough>,
 }
 

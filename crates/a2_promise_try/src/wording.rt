@@ -1,8 +1,12 @@
 //! Writes numbers, addresses, inputs and texts as they appear in reports.
 
+use crate::promise_words::hidden_by;
+use a2_asm::Program;
 use a2_promise_certify::Input;
 use a2_stream::{Output, WriteFault, put_all};
+use a2_symbols::name_of;
 use a2_text::{decimal, hex_pair, hex_word};
+use std::alloc::Global;
 
 /// Writes a number between two texts.
 pub(crate) fn put_number<W: Output>(
@@ -76,6 +80,23 @@ pub(crate) fn put_input<W: Output>(
         Input::Byte(address) => return put_address(words, address, output),
     };
     put_all(&[words, name], output)
+}
+
+/// Writes a text followed by an input; a byte is written by its name in the source, if it has one that is not a word of
+/// promises.
+pub(crate) fn put_named<W: Output>(
+    program: &Program<Global>,
+    words: &[u8],
+    input: Input,
+    output: &mut W,
+) -> Result<(), WriteFault> {
+    if let Input::Byte(address) = input {
+        let name = name_of(program.names(), address);
+        if !name.is_empty() && hidden_by(name).is_none() {
+            return put_all(&[words, name], output);
+        }
+    }
+    put_input(words, input, output)
 }
 
 /// Writes the number of a line, and its text.

@@ -5,9 +5,9 @@ ghost use Rattle.std.specs.Prelude.{◌≤◌, IfOk};
 use crate::failing::film_first;
 use a2_arguments::Arguments;
 use a2_host::{Desk, Shelf};
-use a2_promise_try::{Asked, Judgement, Trials, judge_all, run_cases};
+use a2_promise_try::{Asked, Judgement, ReportForm, Trials, judge_all, run_cases};
 use a2_stream::{Input, Output};
-use a2lab_commands::options::{FILM, STATES};
+use a2lab_commands::options::{FILM, PROMISE_JSON, STATES};
 use a2lab_commands::{
     CommandArgs, Host, Message, Refusal, Value, assembled_text, expanded_text_of,
     refuse_overwriting_input, report,
@@ -20,11 +20,12 @@ const TRIALS: Trials = Trials {
     some: 1_000_000,
 };
 
-// The options: how many states are tried, and the file to which a film is written.
+// The options: how many states are tried, the file to which a film is written, and the form of the report.
 #[derive(Clone, Copy)]
 struct PromiseArgs<'a> {
     trials: Trials,
     page: Option<&'a str>,
+    form: ReportForm,
 }
 
 // Reads the options.
@@ -36,9 +37,15 @@ fn promise_args<'a>(arguments: &Arguments<'a>) -> PromiseArgs<'a> {
         },
         None => TRIALS,
     };
+    let form = if arguments.has(&PROMISE_JSON) {
+        ReportForm::Json
+    } else {
+        ReportForm::Text
+    };
     PromiseArgs {
         trials,
         page: arguments.text(&FILM),
+        form,
     }
 }
 
@@ -87,6 +94,7 @@ pub fn promise_of<'a, S: Shelf, D: Desk, C, R: Input, W: Output, E: Output>(
     }
     let asked = Asked {
         trials: wish.trials,
+        form: wish.form,
         runs: runs.as_slice(),
     };
     let judgement = judge_all(alloc, &assembled, asked, &mut host.output)?;
