@@ -129,13 +129,13 @@ fn guess_at<A: Allocator>(
     labels: &Labels<'_, A>,
     address: u16,
 ) -> (Kind, u16) {
-    let words = count_words(image, marks, labels, address);
-    if words >= FEWEST_WORDS.saturating_mul(2) {
-        return (Kind::Words, words);
-    }
     let zeros = count_zeros(image, marks, address);
     if zeros >= FEWEST_ZEROS {
         return (Kind::Zeros, zeros);
+    }
+    let words = count_words(image, marks, labels, address);
+    if words >= FEWEST_WORDS.saturating_mul(2) {
+        return (Kind::Words, words);
     }
     let characters = count_text(image, marks, address);
     if characters >= FEWEST_CHARACTERS {

@@ -179,7 +179,8 @@ pub(crate) fn word_at<A: Allocator>(image: &Image<A>, address: u16) -> Option<u1
     Some(u16::from_le_bytes([low, high]))
 }
 
-/// Returns the labels of an image: what its instructions and words refer to, its entries, and the names that were given.
+/// Returns the labels of an image: what its instructions and words refer to, its entries, the instructions that a run changed, and the names
+/// that were given.
 pub(crate) fn labels_of<'a, A: Allocator + Copy>(
     alloc: A,
     image: &Image<A>,
@@ -191,6 +192,9 @@ pub(crate) fn labels_of<'a, A: Allocator + Copy>(
         if marks.at(*address) == Mark::First {
             labels.add(*address, Use::Entry);
         }
+    }
+    for address in request.changed {
+        labels.refer(marks, *address, Use::Named);
     }
     labels.refer_to_names(marks, request.names);
     for address in 0..RAM_END {

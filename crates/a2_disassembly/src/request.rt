@@ -38,7 +38,7 @@ pub struct Request<'a> {
     pub entries: &'a [u16],
     /// Where instructions began that a run executed.
     pub executed: &'a [u16],
-    /// Where a run stored into instructions.
+    /// Where instructions begin that a run changed.
     pub changed: &'a [u16],
     pub parts: &'a [Part],
     /// The names of addresses. If an address is given twice, its last name counts.

@@ -10,7 +10,7 @@ use crate::follow::follow;
 use crate::guess::guess;
 use crate::labels::labels_of;
 use crate::marks::{Kind, Mark, Marks};
-use crate::operand::Known;
+use crate::operand::{Known, put_address};
 use crate::request::Request;
 use crate::routines::{Call, calls_of, put_routine};
 use crate::statements::{is_last, put_statement};
@@ -129,17 +129,17 @@ fn put_remark<A: Allocator>(draft: &mut Draft<A>, line: &[u8]) -> Result<(), All
 // Appends the comments at the head of a source.
 fn put_head<A: Allocator + Copy>(
     alloc: A,
+    known: &Known<'_, '_, A>,
     draft: &mut Draft<A>,
-    marks: &Marks<A>,
     request: &Request<'_>,
 ) -> Result<(), AllocError> {
     for line in request.remarks {
         put_remark(draft, *line)?;
     }
-    put_guesses(alloc, draft, marks)?;
+    put_guesses(alloc, draft, known.marks)?;
     for address in request.changed {
-        draft.put(b"; The run stored into the instruction at ")?;
-        draft.put_word(*address)?;
+        draft.put(b"; The run changed the instruction at ")?;
+        put_address(known, draft, *address)?;
         draft.end_line()?;
     }
     Ok(())
@@ -280,7 +280,7 @@ fn text_of<A: Allocator + Copy>(
     };
     let calls = calls_of(alloc, &known)?;
     let mut draft = Draft::new(alloc);
-    put_head(alloc, &mut draft, &marks, request)?;
+    put_head(alloc, &known, &mut draft, request)?;
     put_equates(&known, &mut draft)?;
     put_statements(alloc, &known, &mut draft, calls.as_slice())?;
     put_long_names(&known, &mut draft)?;

@@ -28,3 +28,12 @@ catalog disk = with_sectors [] disk (slice_index disk 69633) (slice_index disk 6
 -- whether an entry is that of a binary file, whose type is 4; the high bit of the type says that the file is locked
 abbrev pub is_binary : List ℕ → ℕ → Bool
 is_binary disk entry = slice_index disk (entry + 2) % 128 == 4
+
+-- with n bytes from an offset on, without their high bits
+unfoldable pub with_characters : List ℕ → List ℕ → ℕ → ℕ → List ℕ
+with_characters characters disk at zero = characters
+with_characters characters disk at (suc n) = with_characters (characters ++ slice_index disk at % 128 ∷ []) disk (at + 1) n
+
+-- the name in an entry: its 30 bytes from byte 3 on
+abbrev pub name : List ℕ → ℕ → List ℕ
+name disk entry = with_characters [] disk (entry + 3) 30

@@ -1,3 +1,4 @@
 pub mod Sectors
 pub mod Contents
 pub mod Catalog
+pub mod Files

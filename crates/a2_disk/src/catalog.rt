@@ -1,7 +1,7 @@
 //! The catalog of a disk.
 
 ghost use Rattle.std.specs.Prelude.{◌≡◌, ◌≤◌, ◌+◌, ◌*◌, IfOk};
-ghost use Rattle.a2_disk.specs.Catalog.{in_use, with_used, with_sectors, catalog, is_binary};
+ghost use Rattle.a2_disk.specs.Catalog.{in_use, with_used, with_sectors, catalog, is_binary, with_characters, name};
 
 use crate::bytes::{byte_at, is_sector, sector_start};
 use std::alloc::{AllocError, Global};
@@ -81,13 +81,25 @@ pub fn is_binary(disk: &[u8], entry: usize) -> bool
     byte_at(disk, entry + 2) % 128 == 4
 }
 
-/// Returns the 30 characters of the name in the entry of the catalog at an offset, without their high bits.
+// Appends this many characters from an offset on, without their high bits.
+#[tactic(auto, using(crate::proofs::CatalogLaws::characters_step, crate::proofs::CatalogLaws::characters_none))]
+fn put_characters(name: &mut Vec<u8>, disk: &[u8], at: usize, left: usize) -> Result<(), AllocError>
+    requires { at + left ≤ 200000 }
+    ensures { IfOk result (λ _. name.new.items ≡ with_characters name.old.items disk.now at left) }
+{
+    if left == 0 {
+        return Ok(());
+    }
+    name.push((byte_at(disk, at) % 128) as u8)?;
+    put_characters(name, disk, at + 1, left - 1)
+}
+
+/// Returns the 30 characters of the name in the entry of the catalog at an offset, without their high bits. Fails only if memory runs out.
 pub fn name_at(alloc: Global, disk: &[u8], entry: usize) -> Result<Vec<u8>, AllocError>
     requires { entry ≤ 143360 }
+    ensures { IfOk result (λ found. found.items ≡ name disk.now entry) }
 {
     let mut name = Vec::new(alloc);
-    for i in 3..33 {
-        name.push((byte_at(disk, entry + i) % 128) as u8)?;
-    }
+    put_characters(&mut name, disk, entry + 3, 30)?;
     Ok(name)
 }

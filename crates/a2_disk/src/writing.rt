@@ -1,33 +1,35 @@
-//! A disk with a binary file.
+//! A disk with binary files.
 
-ghost use Rattle.std.specs.Prelude.{◌≡◌, ◌≤◌, ◌+◌, [], ◌∷◌, length, take, IfOk};
+ghost use Rattle.std.specs.Prelude.{◌≡◌, ◌≤◌, ◌<◌, length, IfOk};
 ghost use Rattle.a2_disk.specs.Catalog.{catalog};
-ghost use Rattle.a2_disk.specs.Contents.{contents};
+ghost use Rattle.a2_disk.specs.Files.{HasFiles};
 
 use crate::bytes::DISK_LEN;
 use crate::catalog::catalog_of;
-use crate::contents::contents_of;
+use crate::files::{DiskFile, has_files};
 use std::alloc::{AllocError, Global};
 
 // The offset of the table of the disk's sectors, which is sector 0 of track 17.
 const TABLE: usize = 69_632;
 
-// The offset of the first sector of the catalog, sector 15 of track 17, and of its first entry.
-const CATALOG: usize = 73_472;
+// The most files: seven in each of the 15 sectors of the catalog.
+const MOST_FILES: usize = 105;
 
-const ENTRY: usize = 73_483;
+// The sectors that files can have: those of tracks 3 to 34, without track 17.
+const MOST_SECTORS: usize = 496;
 
-// The first sector of the file: sector 0 of track 18.
-const FIRST: usize = 288;
-
-// The most sectors of a file: those of tracks 18 to 34, without the lists.
-const MOST_SECTORS: usize = 244;
+// The pairs in a list of sectors.
+const PAIRS: usize = 122;
 
 /// Why no disk is written.
 #[derive(Clone, Copy, Debug, PartialEq, Eq)]
 pub enum DiskFault {
-    /// The file has more bytes than fit in 244 sectors.
-    TooLong,
+    /// There are more than 105 files.
+    TooManyFiles,
+    /// The file with this number, from 0, does not fit after the ones before it.
+    Full(usize),
+    /// The file with this number, from 0, has the name of an earlier one.
+    SameName(usize),
     /// What was written would not be read back.
     Unlike,
     /// Memory ran out.
@@ -44,6 +46,14 @@ impl From<AllocError> for DiskFault {
     }
 }
 
+// Where a file is: the number of its first sector, its lists of sectors and, after them, the sectors with its bytes.
+#[derive(Clone, Copy)]
+struct Extent {
+    first: usize,
+    lists: usize,
+    sectors: usize,
+}
+
 // Stores a byte at an offset of the disk.
 fn put(disk: &mut [u8], at: usize, byte: u8) {
     if at < disk.len() {
@@ -58,21 +68,46 @@ fn put_all(disk: &mut [u8], at: usize, bytes: &[u8]) {
     }
 }
 
-// Stores which sectors are free: those of tracks 3 to 34, without track 17 and the `used` sectors from the first one of the file on.
+// Returns the track and the sector that the files use as the one with this number: those of tracks 18 to 34, then 16 down to 3.
+fn sector_numbered(number: usize) -> (usize, usize)
+    ensures { result.0 < 256 }
+{
+    let track = number.min(MOST_SECTORS) / 16;
+    if track < 17 {
+        (18 + track, number % 16)
+    } else {
+        (33usize.saturating_sub(track), number % 16)
+    }
+}
+
+// Returns the offset of the sector with this number.
+fn offset_of(number: usize) -> usize {
+    let (track, sector) = sector_numbered(number);
+    (track * 16 + sector % 16) * 256
+}
+
+// Stores the pair of the track and the sector with this number at an offset.
+fn put_pair(disk: &mut [u8], at: usize, number: usize) {
+    let (track, sector) = sector_numbered(number);
+    put_all(disk, at, &[(track % 256) as u8, (sector % 16) as u8]);
+}
+
+// Stores that a sector is free: a bit for each, the highest one of two bytes for sector 15.
+fn put_free(disk: &mut [u8], number: usize) {
+    let (track, sector) = sector_numbered(number);
+    let at = TABLE + 0x38 + track * 4 + if sector < 8 { 1 } else { 0 };
+    if at < disk.len() {
+        disk[at] |= 1u8 << ((sector % 8) as u32);
+    }
+}
+
+// Stores the table of the disk's sectors: those from number `used` on are free.
 fn put_table(disk: &mut [u8], used: usize) {
     put_all(disk, TABLE, &[4, 17, 15, 3, 0, 0, 254]);
-    put(disk, TABLE + 0x27, 122);
+    put(disk, TABLE + 0x27, PAIRS as u8);
     put_all(disk, TABLE + 0x30, &[18, 1, 0, 0, 35, 16, 0, 1]);
-    for track in 3..35usize {
-        let first = (track * 16).saturating_sub(FIRST);
-        let mut free: u16 = 0xFFFF;
-        for sector in 0..16u32 {
-            let taken = track >= 18 && first + (sector as usize) < used;
-            if taken || track == 17 {
-                free &= !(1u16 << sector);
-            }
-        }
-        put_all(disk, TABLE + 0x38 + track * 4, &free.to_be_bytes());
+    for number in used..MOST_SECTORS {
+        put_free(disk, number);
     }
 }
 
@@ -84,77 +119,118 @@ fn put_links(disk: &mut [u8]) {
     }
 }
 
-// Stores the pair of a track and a sector at an offset, for the sector with this number.
-fn put_pair(disk: &mut [u8], at: usize, number: usize) {
-    put_all(disk, at, &[(number / 16 % 35) as u8, (number % 16) as u8]);
-}
-
-// Stores the entry of the file, which has `sectors` sectors and `lists` lists of them.
-fn put_entry(disk: &mut [u8], name: &[u8], sectors: usize, lists: usize) {
-    put_pair(disk, ENTRY, FIRST);
-    put(disk, ENTRY + 2, 4);
-    put_all(disk, ENTRY + 3, &[0xA0; 30]);
-    for (i, character) in name.iter().take(30).enumerate() {
-        put(disk, ENTRY.saturating_add(3 + i % 30), *character | 0x80);
+// Stores the entry of the file with this number in the catalog, which has seven entries in a sector.
+fn put_entry(disk: &mut [u8], number: usize, file: &DiskFile<'_>, extent: Extent) {
+    let sector = 15usize.saturating_sub(number / 7);
+    let at = TABLE + sector * 256 + 11 + number % 7 * 35;
+    put_pair(disk, at, extent.first);
+    put(disk, at + 2, 4);
+    for (i, character) in file.name.iter().enumerate() {
+        put(
+            disk,
+            at.saturating_add(3).saturating_add(i),
+            *character | 0x80,
+        );
     }
-    let count = sectors.saturating_add(lists);
-    put(disk, ENTRY + 33, (count % 256) as u8);
+    let count = extent.sectors.saturating_add(extent.lists);
+    put(disk, at + 33, (count % 256) as u8);
+    put(disk, at + 34, (count / 256 % 256) as u8);
 }
 
-// Stores the lists of the sectors of the file. The lists are in the first sectors, and the bytes in those after them.
-fn put_lists(disk: &mut [u8], sectors: usize, lists: usize) {
-    for list in 0..lists.min(2) {
-        let start = (FIRST + list) * 256;
-        if list + 1 < lists {
-            put_pair(disk, start + 1, FIRST + list + 1);
-        }
-        put(disk, start + 5, (list * 122 % 256) as u8);
-        for i in 0..122usize {
-            let number = list * 122 + i;
-            if number < sectors {
-                put_pair(
-                    disk,
-                    start + 12 + 2 * i,
-                    FIRST.saturating_add(lists.saturating_add(number)),
-                );
-            }
+// Stores a list of the sectors of a file: its number, from 0, and the pairs of at most 122 sectors.
+fn put_list(disk: &mut [u8], list: usize, extent: Extent) {
+    let number = extent.first.saturating_add(list);
+    let start = offset_of(number);
+    if list.saturating_add(1) < extent.lists {
+        put_pair(disk, start.saturating_add(1), number.saturating_add(1));
+    }
+    let before = list.saturating_mul(PAIRS);
+    put_all(
+        disk,
+        start.saturating_add(5),
+        &[(before % 256) as u8, (before / 256 % 256) as u8],
+    );
+    let data = extent.first.saturating_add(extent.lists);
+    for i in 0..PAIRS {
+        let next = before.saturating_add(i);
+        if next < extent.sectors {
+            let at = start.saturating_add(12).saturating_add(i.saturating_mul(2));
+            put_pair(disk, at, data.saturating_add(next));
         }
     }
 }
 
-// Returns a disk with this file.
-fn disk_of(alloc: Global, name: &[u8], file: &[u8], sectors: usize) -> Result<Vec<u8>, AllocError>
+// Stores the bytes of a file, 256 in a sector.
+fn put_bytes(disk: &mut [u8], bytes: &[u8], first: usize) {
+    for (i, byte) in bytes.iter().enumerate() {
+        let start = offset_of(first.saturating_add(i / 256));
+        put(disk, start.saturating_add(i % 256), *byte);
+    }
+}
+
+// Stores the file with this number.
+fn put_file(disk: &mut [u8], number: usize, file: &DiskFile<'_>, extent: Extent) {
+    put_entry(disk, number, file, extent);
+    for list in 0..extent.lists {
+        put_list(disk, list, extent);
+    }
+    put_bytes(disk, file.bytes, extent.first.saturating_add(extent.lists));
+}
+
+// Returns whether one of these files has this name.
+fn is_taken(files: &[DiskFile<'_>], name: &[u8; 30]) -> bool {
+    files.iter().any(|file| file.name == *name)
+}
+
+// Stores the files, and returns how many sectors they have.
+fn put_files(disk: &mut [u8], files: &[DiskFile<'_>]) -> Result<usize, DiskFault> {
+    let mut used = 0usize;
+    for (i, file) in files.iter().enumerate() {
+        if is_taken(&files[..i], &file.name) {
+            return Err(DiskFault::SameName(i));
+        }
+        let sectors = file.bytes.len().div_ceil(256);
+        let lists = sectors.div_ceil(PAIRS).max(1);
+        let end = used.saturating_add(sectors).saturating_add(lists);
+        if end > MOST_SECTORS {
+            return Err(DiskFault::Full(i));
+        }
+        let extent = Extent {
+            first: used,
+            lists,
+            sectors,
+        };
+        put_file(disk, i, file, extent);
+        used = end;
+    }
+    Ok(used)
+}
+
+// Returns a disk with these files.
+fn disk_of(alloc: Global, files: &[DiskFile<'_>]) -> Result<Vec<u8>, DiskFault>
     ensures { IfOk result (λ disk. length disk.items ≡ 143360) }
 {
     let mut disk = Vec::from_elem(alloc, 0u8, DISK_LEN)?;
-    let lists = if sectors > 122 { 2 } else { 1 };
     let bytes = disk.as_mut_slice();
-    put_table(bytes, sectors.saturating_add(lists));
+    let used = put_files(bytes, files)?;
+    put_table(bytes, used);
     put_links(bytes);
-    put_entry(bytes, name, sectors, lists);
-    put_lists(bytes, sectors, lists);
-    put_all(bytes, (FIRST + lists) * 256, file);
     Ok(disk)
 }
 
-/// Returns a disk of DOS 3.3 that has one binary file and no DOS, in memory of `alloc`. `file` begins with the address and the number of its
-/// bytes. The disk is read back before it is returned: its catalog has one entry, whose file begins with exactly these bytes. Fails if the file
-/// is too long.
-pub fn write_disk(alloc: Global, name: &[u8], file: &[u8]) -> Result<Vec<u8>, DiskFault>
-    ensures entry { IfOk result (λ disk. catalog disk.items ≡ 73483 ∷ []) }
-    ensures contents { IfOk result (λ disk. take (length file.now) (contents disk.items 73483) ≡ file.now) }
+/// Returns a disk of DOS 3.3 that has these binary files and no DOS, in memory of `alloc`. The bytes of a file begin with its address and the
+/// number of the bytes after them. The disk is read back before it is returned: its catalog has exactly these files, in this order, with these
+/// names, and each begins with exactly these bytes. Fails if there are more than 105 files, if they do not fit in 496 sectors of 256 bytes, or
+/// if two have the same name.
+pub fn write_disk(alloc: Global, files: &[DiskFile<'_>]) -> Result<Vec<u8>, DiskFault>
+    ensures { IfOk result (λ disk. HasFiles disk.items (catalog disk.items) files.now) }
 {
-    let sectors = file.len().div_ceil(256);
-    if sectors > MOST_SECTORS {
-        return Err(DiskFault::TooLong);
+    if files.len() > MOST_FILES {
+        return Err(DiskFault::TooManyFiles);
     }
-    let disk = disk_of(alloc, name, file, sectors)?;
+    let disk = disk_of(alloc, files)?;
     let entries = catalog_of(alloc, disk.as_slice())?;
-    if entries.as_slice() != [ENTRY].as_slice() {
-        return Err(DiskFault::Unlike);
-    }
-    let bytes = contents_of(alloc, disk.as_slice(), ENTRY)?;
-    if bytes.len() < file.len() || &bytes[..file.len()] != file {
+    if !has_files(alloc, disk.as_slice(), entries.as_slice(), files)? {
         return Err(DiskFault::Unlike);
     }
     Ok(disk)

@@ -8,30 +8,27 @@ use crate::laying::empty_image;
 use a2_hex::{Image, RAM_END};
 use std::alloc::Global;
 
+// Returns the first address of an image that has a byte.
+fn first_of(image: &Image) -> Option<u16>
+    ensures { IfSome result (λ address. address < ram_end) }
+{
+    for address in 0..RAM_END {
+        if image.get(address).is_some() {
+            return Some(address);
+        }
+    }
+    None
+}
+
 // Returns the first address of an image that has a byte, and the address after the last one. Returns `None` if there is no byte.
 pub(crate) fn ends_of(image: &Image) -> Option<(u16, u16)>
     ensures { IfSome result (λ (first, end). end < 0xC001) }
 {
-    let mut ends = None;
-    for address in 0..RAM_END {
-        if image.get(address).is_some() {
-            ends = match ends {
-                None => Some((address, address + 1)),
-                Some((first, _)) => Some((first, address + 1)),
-            };
-        }
-    }
-    ends
-}
-
-/// Returns the first address without a byte that has bytes before it and after it, or `None` if there is no such gap.
-pub fn first_gap(image: &Image) -> Option<u16>
-    ensures { IfSome result (λ address. held image.now address ≡ None) }
-{
-    let (first, end) = ends_of(image)?;
-    for address in first..end {
-        if image.get(address).is_none() {
-            return Some(address);
+    let first = first_of(image)?;
+    for before in 0..RAM_END {
+        let last = RAM_END - 1 - before;
+        if image.get(last).is_some() {
+            return Some((first, last + 1));
         }
     }
     None

@@ -21,7 +21,7 @@ mod writing;
 
 pub use apple::{read_apple_single, write_apple_single};
 pub use fault::{Flaw, FormatFault};
-pub use filling::{copied, fill_gaps, first_gap};
+pub use filling::{copied, fill_gaps};
 pub use format::{Format, format_of};
 pub use monitor::{read_monitor_lines, write_monitor_lines};
 pub use plain::{Plain, plain_of, read_dos, read_plain, write_dos};

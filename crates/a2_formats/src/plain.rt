@@ -1,12 +1,13 @@
 //! Bytes without gaps: plain bytes, and the binary files of DOS 3.3.
 
-ghost use Rattle.std.specs.Prelude.{◌≡◌, ◌≢◌, ◌<◌, Ok, Err, IfOk, IfErr};
+ghost use Rattle.std.specs.Prelude.{◌≡◌, ◌≢◌, ◌<◌, ℕ, None, Ok, Err, IfOk, IfErr};
 ghost use Rattle.a2_hex.specs.Images.{held};
-ghost use Rattle.a2_formats.specs.declared.fault.FormatFault.TheVariants.{Memory};
+ghost use Rattle.a2_formats.specs.declared.fault.FormatFault.TheVariants.{At, Memory};
+ghost use Rattle.a2_formats.specs.declared.fault.Flaw.TheVariants.{Gap};
 ghost use Rattle.a2_formats.specs.Plain.{plain_image, dos_image};
 
 use crate::fault::{Flaw, FormatFault};
-use crate::filling::{ends_of, first_gap};
+use crate::filling::ends_of;
 use crate::laying::{empty_image, lay};
 use crate::same::is_same;
 use a2_hex::Image;
@@ -48,16 +49,18 @@ pub(crate) fn read_from(
 }
 
 // Returns the bytes of an image from its first one to its last one, and the address of the first one.
-pub(crate) fn bytes_of(alloc: Global, image: &Image) -> Result<Plain, FormatFault> {
+pub(crate) fn bytes_of(alloc: Global, image: &Image) -> Result<Plain, FormatFault>
+    ensures gap { (address : ℕ) → result ≡ Err (At address Gap) → held image.now address ≡ None }
+{
     let Some((start, end)) = ends_of(image) else {
         return Err(FormatFault::At(0, Flaw::Empty));
     };
-    if let Some(gap) = first_gap(image) {
-        return Err(FormatFault::At(usize::from(gap), Flaw::Gap));
-    }
-    let mut bytes = Vec::new(alloc);
+    let mut bytes = Vec::with_capacity(alloc, usize::from(end))?;
     for address in start..end {
-        bytes.push(image.get(address).unwrap_or(0))?;
+        match image.get(address) {
+            Some(byte) => bytes.push(byte)?,
+            None => return Err(FormatFault::At(usize::from(address), Flaw::Gap)),
+        }
     }
     Ok(Plain { start, bytes })
 }

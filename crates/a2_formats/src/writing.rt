@@ -10,22 +10,16 @@ use crate::records::sum_of_bytes;
 use crate::runs::next_run;
 use crate::same::is_same;
 use a2_hex::{Image, RAM_END};
+use a2_text::hex_pair;
 use std::alloc::{AllocError, Global};
 
 // The most bytes of a record that is written.
 const WIDTH: usize = 16;
 
-// Returns the capital hexadecimal digit of the low half of a byte.
-fn digit(half: u8) -> u8 {
-    let half = half % 16;
-    if half < 10 { b'0' + half } else { 55 + half }
-}
-
 // Appends bytes as two digits each.
 pub(crate) fn put_pairs(text: &mut Vec<u8>, bytes: &[u8]) -> Result<(), AllocError> {
     for byte in bytes {
-        text.push(digit(*byte / 16))?;
-        text.push(digit(*byte))?;
+        text.extend_from_slice(&hex_pair(*byte))?;
     }
     Ok(())
 }

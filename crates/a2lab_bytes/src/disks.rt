@@ -1,9 +1,12 @@
 //! The binary files of a disk of DOS 3.3.
 
-use a2_disk::{DISK_LEN, DiskFault, catalog_of, contents_of, is_binary, name_at, write_disk};
+use a2_disk::{
+    DISK_LEN, DiskFault, DiskFile, catalog_of, contents_of, disk_name, is_binary, name_at,
+    write_disk,
+};
 use a2_run::RunFault;
 use a2_stream::{Output, put_all};
-use a2lab_commands::{Message, Refusal};
+use a2lab_commands::{Message, Refusal, is_input};
 use std::alloc::{AllocError, Global};
 
 /// Returns the name of a disk without the name of a file on it, and that name, as in `game.dsk:HELLO`.
@@ -103,45 +106,89 @@ pub(crate) fn file_on_disk<'a, E: Output>(
     let all = entries_named(alloc, disk, None)?;
     report_names(alloc, disk, all.as_slice(), complaints)?;
     let name = name.unwrap_or("-");
+    if all.is_empty() {
+        return Err(Refusal::of(Message::NoFilesOnDisk, name));
+    }
     match part {
         Some(part) => Err(Refusal::of_two(Message::NoSuchFileOnDisk, name, part)),
         None => Err(Refusal::of_two(Message::SeveralFilesOnDisk, name, name)),
     }
 }
 
-// Returns the name of a file on a disk: the name of a path, in capitals, without its folder and its ending.
-fn name_of(alloc: Global, file: Option<&str>) -> Result<Vec<u8>, AllocError> {
-    let path = file.unwrap_or("PROGRAM");
+// Returns the name that a file gives a file on a disk: that of a path without its folder and its ending, or that of a file on a disk.
+fn name_of(file: Option<&str>) -> &str {
+    let (path, part) = split_disk(file);
+    if let Some(part) = part {
+        return part;
+    }
+    let path = path.unwrap_or("-");
+    if is_input(path) {
+        return "PROGRAM";
+    }
     let name = match path.rsplit_once('/') {
         Some((_, name)) => name,
         None => path,
     };
-    let name = match name.split_once('.') {
+    match name.split_once('.') {
         Some((front, _)) => front,
         None => name,
-    };
-    let mut capitals = Vec::new(alloc);
-    for character in name.as_bytes() {
-        match *character {
-            c @ b'a'..=b'z' => capitals.push(c - 32)?,
-            c @ b' '..=b'~' => capitals.push(c)?,
-            _ => capitals.push(b'?')?,
-        }
     }
-    Ok(capitals)
 }
 
-/// Returns a disk with a binary file, which is named after the file of its bytes. `disk` is the name of the disk.
+/// A binary file for a disk.
+#[derive(Drop)]
+pub(crate) struct Binary<'a> {
+    /// The file that gives its bytes and its name.
+    pub file: Option<&'a str>,
+    /// Its address, the number of its bytes, and its bytes.
+    pub bytes: Vec<u8>,
+}
+
+// Returns the name of the file that gives one of these binary files.
+fn file_numbered<'a>(binaries: &[Binary<'a>], number: usize) -> &'a str {
+    match binaries.get(number) {
+        Some(binary) => binary.file.unwrap_or("-"),
+        None => "-",
+    }
+}
+
+// Returns why the disk `disk` is not written.
+fn disk_refusal<'a>(disk: &'a str, binaries: &[Binary<'a>], fault: DiskFault) -> Refusal<'a> {
+    match fault {
+        DiskFault::TooManyFiles | DiskFault::Unlike => {
+            Refusal::of(Message::ManyFilesForDisk, disk)
+        }
+        DiskFault::Full(number) => {
+            Refusal::of_two(Message::FullDisk, disk, file_numbered(binaries, number))
+        }
+        DiskFault::SameName(number) => {
+            Refusal::of_two(
+                Message::SameNameOnDisk,
+                disk,
+                file_numbered(binaries, number),
+            )
+        }
+        DiskFault::Memory => Refusal::Fault(RunFault::Memory),
+    }
+}
+
+/// Returns a disk with these binary files, each named after the file that gives its bytes. `disk` is the name of the disk.
 pub(crate) fn disk_with<'a>(
     alloc: Global,
-    file: Option<&str>,
     disk: &'a str,
-    binary: &[u8],
+    binaries: &[Binary<'a>],
 ) -> Result<Vec<u8>, Refusal<'a>> {
-    let name = name_of(alloc, file)?;
-    match write_disk(alloc, name.as_slice(), binary) {
+    let mut files = Vec::new(alloc);
+    for binary in binaries {
+        let Some(name) = disk_name(name_of(binary.file).as_bytes()) else {
+            let file = binary.file.unwrap_or("-");
+            return Err(Refusal::of_two(Message::NotNameOnDisk, disk, file));
+        };
+        let bytes = binary.bytes.as_slice();
+        files.extend_from_slice(&[DiskFile { name, bytes }])?;
+    }
+    match write_disk(alloc, files.as_slice()) {
         Ok(bytes) => Ok(bytes),
-        Err(DiskFault::Memory) => Err(Refusal::Fault(RunFault::Memory)),
-        Err(_) => Err(Refusal::of(Message::LongFileForDisk, disk)),
+        Err(fault) => Err(disk_refusal(disk, binaries, fault)),
     }
 }

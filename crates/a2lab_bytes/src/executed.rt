@@ -3,6 +3,7 @@
 use a2_bus::Keys;
 use a2_hex::{Image, RAM_END};
 use a2_machine::Machine;
+use a2_opcode::decode;
 use std::alloc::{AllocError, Global};
 
 /// What a run executed and changed.
@@ -10,7 +11,7 @@ use std::alloc::{AllocError, Global};
 pub(crate) struct Executed {
     /// Where the instructions of the image begin that were executed, by rising address.
     pub instructions: Vec<u16>,
-    /// Which of these addresses hold another byte after the run.
+    /// Which of them were executed, or are at the end of the run, with another byte than in the image.
     pub changed: Vec<u16>,
 }
 
@@ -22,23 +23,55 @@ pub(crate) struct RunOf<'a> {
     pub limit: u32,
 }
 
-// Runs the image, and returns which addresses of RAM began an instruction that was executed.
-fn visited(
-    alloc: Global,
-    machine: &mut Machine<Global>,
-    limit: u32,
-) -> Result<Vec<bool>, AllocError> {
-    let mut visited = Vec::from_elem(alloc, false, usize::from(RAM_END))?;
-    for _ in 0..limit {
-        let address = machine.regs().pc;
-        if machine.step().is_some() {
-            return Ok(visited);
-        }
-        if let Some(cell) = visited.as_mut_slice().get_mut(usize::from(address)) {
-            *cell = true;
+// What is known of an address of RAM.
+#[derive(Clone, Copy, Debug, PartialEq, Eq)]
+enum Seen {
+    /// No instruction that begins there was executed.
+    Nothing,
+    /// An instruction was executed.
+    Executed,
+    /// One was executed with another byte than in the image.
+    Changed,
+}
+
+// Returns whether the instruction of the image at an address has another byte in memory.
+fn is_changed(machine: &Machine<Global>, image: &Image, address: u16) -> bool {
+    let first = image.get(address);
+    let length = match decode(&[first.unwrap_or(0), 0, 0], address) {
+        Some(instr) => u16::from(instr.mode.length()),
+        None => 1,
+    };
+    for at in address..address.saturating_add(length) {
+        if machine.peek(at) != image.get(at) {
+            return true;
         }
     }
-    Ok(visited)
+    false
+}
+
+// Runs the image, and returns what is known of each address of RAM.
+fn seen_by(
+    alloc: Global,
+    machine: &mut Machine<Global>,
+    image: &Image,
+    limit: u32,
+) -> Result<Vec<Seen>, AllocError> {
+    let mut seen = Vec::from_elem(alloc, Seen::Nothing, usize::from(RAM_END))?;
+    for _ in 0..limit {
+        let address = machine.regs().pc;
+        let is_changed = is_changed(machine, image, address);
+        if machine.step().is_some() {
+            return Ok(seen);
+        }
+        if let Some(cell) = seen.as_mut_slice().get_mut(usize::from(address)) {
+            *cell = if is_changed || *cell == Seen::Changed {
+                Seen::Changed
+            } else {
+                Seen::Executed
+            };
+        }
+    }
+    Ok(seen)
 }
 
 /// Runs the image without a guard, and returns what the run executed and changed.
@@ -48,13 +81,13 @@ pub(crate) fn run_image(
     run: &RunOf<'_>,
 ) -> Result<Executed, AllocError> {
     let mut machine = Machine::booted(alloc, image, run.entry, run.keys)?;
-    let visited = visited(alloc, &mut machine, run.limit)?;
+    let seen = seen_by(alloc, &mut machine, image, run.limit)?;
     let mut instructions = Vec::new(alloc);
     let mut changed = Vec::new(alloc);
-    for (address, is_visited) in (0..RAM_END).zip(visited.iter()) {
-        if *is_visited && image.get(address).is_some() {
+    for (address, seen) in (0..RAM_END).zip(seen.iter()) {
+        if *seen != Seen::Nothing && image.get(address).is_some() {
             instructions.push(address)?;
-            if machine.peek(address) != image.get(address) {
+            if *seen == Seen::Changed || is_changed(&machine, image, address) {
                 changed.push(address)?;
             }
         }

@@ -1,6 +1,7 @@
 //! The image of a file that a command names.
 
 use crate::disks::{file_on_disk, split_disk};
+use crate::dumps::dumped_image;
 use crate::flaws::report_flaw;
 use a2_disk::DISK_LEN;
 use a2_formats::{
@@ -9,10 +10,11 @@ use a2_formats::{
 };
 use a2_hex::{Image, address_of};
 use a2_host::Shelf;
-use a2_stream::{Input, Output};
+use a2_run::ReadingFault;
+use a2_stream::{Input, Output, fill};
 use a2lab_commands::options::{AT, FROM};
 use a2lab_commands::{
-    CommandArgs, Host, Message, Refusal, assembled_text, is_input, loaded_text, long_text,
+    CommandArgs, Host, INPUT, Message, Refusal, assembled_text, expanded_text, is_input,
 };
 use std::alloc::Global;
 
@@ -113,22 +115,80 @@ pub(crate) struct Contents<'a> {
     pub form: Option<FileForm>,
 }
 
-/// Reads the file `name`, a file on a disk, or standard input. If `form` does not say what it is, it is found out if it is certain.
-pub(crate) fn contents_in<'a, S: Shelf, D, C, R: Input, W, E: Output>(
+// How many pieces of 4,096 bytes a file to read has at most. The object lines of all of RAM, with eight bytes each, have 178,176 bytes.
+const MOST_PIECES: usize = 256;
+
+// Reads all of an input, or returns `None` if it has more than 256 pieces.
+fn read_pieces<R: Input>(alloc: Global, reader: &mut R) -> Result<Option<Vec<u8>>, ReadingFault> {
+    let mut bytes = Vec::new(alloc);
+    let mut piece = [0u8; 4096];
+    for _ in 0..MOST_PIECES {
+        let count = match fill(&mut piece, reader) {
+            Ok(count) => count,
+            Err(_) => return Err(ReadingFault::Read),
+        };
+        bytes.extend_from_slice(&piece[..count])?;
+        if count < piece.len() {
+            return Ok(Some(bytes));
+        }
+    }
+    let mut after = [0u8];
+    match fill(&mut after, reader) {
+        Ok(0) => Ok(Some(bytes)),
+        Ok(_) => Ok(None),
+        Err(_) => Err(ReadingFault::Read),
+    }
+}
+
+// Reads the file `name`, or standard input, if it has at most 1,048,576 bytes.
+fn short_file<'a, S: Shelf, D, C, R: Input, W, E>(
     name: Option<&'a str>,
-    form: Option<FileForm>,
     host: &mut Host<S, D, C, R, W, E>,
-) -> Result<Contents<'a>, Refusal<'a>> {
-    let alloc = host.alloc;
-    let (name, part) = split_disk(name);
-    let bytes = match name {
-        Some(name) if !is_input(name) => loaded_text(alloc, name, &mut host.shelf)?,
-        _ => long_text(alloc, &mut host.input)?,
+) -> Result<Option<Vec<u8>>, Refusal<'a>> {
+    let (name, read) = match name {
+        Some(name) if !is_input(name) => {
+            let Ok(mut reader) = host.shelf.open(name) else {
+                return Err(Refusal::Unopened(name));
+            };
+            (name, read_pieces(host.alloc, &mut reader))
+        }
+        _ => (INPUT, read_pieces(host.alloc, &mut host.input)),
     };
+    match read {
+        Ok(bytes) => Ok(bytes),
+        Err(fault) => Err(Refusal::of_reading(name, fault)),
+    }
+}
+
+/// Reads the file `name`, or standard input. Fails if it has more than 1,048,576 bytes.
+pub(crate) fn bytes_in<'a, S: Shelf, D, C, R: Input, W, E>(
+    given: &CommandArgs<'_, 'a>,
+    name: Option<&'a str>,
+    host: &mut Host<S, D, C, R, W, E>,
+) -> Result<Vec<u8>, Refusal<'a>> {
+    match short_file(name, host)? {
+        Some(bytes) => Ok(bytes),
+        None => {
+            let name = name.unwrap_or("-");
+            Err(Refusal::of_two(Message::LargeFile, given.command.name, name))
+        }
+    }
+}
+
+/// Returns what the bytes of a file are, and for a disk those of a file on it. `file` has the name of the file, and that of the file on the
+/// disk. If `form` does not say what they are, it is found out if it is certain.
+pub(crate) fn contents_of_file<'a, E: Output>(
+    alloc: Global,
+    file: (Option<&'a str>, Option<&'a str>),
+    bytes: Vec<u8>,
+    form: Option<FileForm>,
+    complaints: &mut E,
+) -> Result<Contents<'a>, Refusal<'a>> {
+    let (name, part) = file;
     if form.is_none() && bytes.len() == DISK_LEN {
         return Ok(Contents {
             name,
-            bytes: file_on_disk(alloc, name, part, bytes.as_slice(), &mut host.complaints)?,
+            bytes: file_on_disk(alloc, name, part, bytes.as_slice(), complaints)?,
             form: Some(FileForm::Format(Format::Dos)),
         });
     }
@@ -139,19 +199,48 @@ pub(crate) fn contents_in<'a, S: Shelf, D, C, R: Input, W, E: Output>(
     Ok(Contents { name, bytes, form })
 }
 
-/// Returns the image of the file `name`, or of standard input. If `form` does not say what it is, it is found out, and a file of none of the
-/// formats is a source.
+/// Reads the file `file`, a file on a disk, or standard input. If `form` does not say what it is, it is found out if it is certain.
+pub(crate) fn contents_in<'a, S: Shelf, D, C, R: Input, W, E: Output>(
+    given: &CommandArgs<'_, 'a>,
+    file: Option<&'a str>,
+    form: Option<FileForm>,
+    host: &mut Host<S, D, C, R, W, E>,
+) -> Result<Contents<'a>, Refusal<'a>> {
+    let (name, part) = split_disk(file);
+    let bytes = bytes_in(given, name, host)?;
+    contents_of_file(host.alloc, (name, part), bytes, form, &mut host.complaints)
+}
+
+/// Returns the image of the file `file`, or of standard input. If `form` does not say what it is, it is found out. A file of none of the
+/// formats is a dump if it can be one, and otherwise a source, which is expanded.
 pub fn loaded_image<'a, S: Shelf, D, C, R: Input, W, E: Output>(
-    name: Option<&'a str>,
+    given: &CommandArgs<'_, 'a>,
+    file: Option<&'a str>,
     form: Option<FileForm>,
     host: &mut Host<S, D, C, R, W, E>,
 ) -> Result<Image, Refusal<'a>> {
-    let contents = contents_in(name, form, host)?;
+    let Contents { name, bytes, form } = contents_in(given, file, form, host)?;
+    if form.is_none() {
+        if let Some(image) = dumped_image(host.alloc, bytes.as_slice())? {
+            return Ok(image);
+        }
+    }
+    let form = form.unwrap_or(FileForm::Source);
+    let bytes = match form {
+        FileForm::Source => expanded_text(
+            host.alloc,
+            name,
+            bytes,
+            &mut host.shelf,
+            &mut host.complaints,
+        )?,
+        FileForm::Format(_) | FileForm::Plain(_) => bytes,
+    };
     image_in(
         host.alloc,
-        contents.name,
-        contents.form.unwrap_or(FileForm::Source),
-        contents.bytes.as_slice(),
+        name,
+        form,
+        bytes.as_slice(),
         &mut host.complaints,
     )
 }

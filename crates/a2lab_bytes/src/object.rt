@@ -2,9 +2,9 @@
 
 ghost use Rattle.std.specs.Prelude.{◌≤◌, IfOk};
 
-use crate::disks::disk_with;
+use crate::disks::{Binary, disk_with, split_disk};
 use crate::flaws::report_flaw;
-use crate::loaded::{form_of_option, loaded_image};
+use crate::loaded::{FileForm, form_of_option, loaded_image};
 use a2_formats::{
     FormatFault, Records, fill_gaps, plain_of, write_apple_single, write_dos, write_monitor_lines,
     write_records,
@@ -103,20 +103,80 @@ fn put_tape<'a, S, D: Desk, C, R, W: Output, E: Output>(
     Ok(())
 }
 
+// Appends the binary file of an image to those for a disk.
+fn add_binary<'a, E: Output>(
+    binaries: &mut Vec<Binary<'a>>,
+    alloc: Global,
+    file: Option<&'a str>,
+    image: &Image,
+    complaints: &mut E,
+) -> Result<(), Refusal<'a>> {
+    let bytes = match write_dos(alloc, image) {
+        Ok(bytes) => bytes,
+        Err(fault) => return Err(report_flaw(file, true, fault, complaints)),
+    };
+    match binaries.push(Binary { file, bytes }) {
+        Ok(()) => Ok(()),
+        Err(_) => Err(Refusal::Fault(RunFault::Memory)),
+    }
+}
+
+// Writes a disk with these binary files to the file `name`.
+fn put_disk<'a, S, D: Desk, C, R, W, E>(
+    name: &'a str,
+    binaries: &[Binary<'a>],
+    host: &mut Host<S, D, C, R, W, E>,
+) -> Result<(), Refusal<'a>> {
+    let disk = disk_with(host.alloc, name, binaries)?;
+    put_into(name, disk.as_slice(), &mut host.desk)?;
+    Ok(())
+}
+
 // Writes a disk with the file of an image to the file `name`.
-fn put_disk<'a, S, D: Desk, C, R, W: Output, E: Output>(
-    file: Option<&str>,
+fn put_file<'a, S, D: Desk, C, R, W, E: Output>(
+    file: Option<&'a str>,
     name: &'a str,
     image: &Image,
     host: &mut Host<S, D, C, R, W, E>,
 ) -> Result<(), Refusal<'a>> {
-    let binary = match write_dos(host.alloc, image) {
-        Ok(binary) => binary,
-        Err(fault) => return Err(report_flaw(file, true, fault, &mut host.complaints)),
-    };
-    let disk = disk_with(host.alloc, file, name, binary.as_slice())?;
-    put_into(name, disk.as_slice(), &mut host.desk)?;
-    Ok(())
+    let mut binaries = Vec::new(host.alloc);
+    add_binary(&mut binaries, host.alloc, file, image, &mut host.complaints)?;
+    put_disk(name, binaries.as_slice(), host)
+}
+
+// Returns the image of a file, with a byte in each gap if `--fill` gives one.
+fn filled_image<'a, S: Shelf, D, C, R: Input, W, E: Output>(
+    given: &CommandArgs<'_, 'a>,
+    file: Option<&'a str>,
+    asked: Asked,
+    host: &mut Host<S, D, C, R, W, E>,
+) -> Result<Image, Refusal<'a>> {
+    let mut image = loaded_image(given, file, asked.form, host)?;
+    if let Some(fill) = asked.fill {
+        fill_gaps(&mut image, fill);
+    }
+    Ok(image)
+}
+
+// Writes a disk with all files that the arguments name to the file `name`.
+fn put_files<'a, S: Shelf, D: Desk, C, R: Input, W, E: Output>(
+    given: &CommandArgs<'_, 'a>,
+    name: &'a str,
+    asked: Asked,
+    host: &mut Host<S, D, C, R, W, E>,
+) -> Result<(), Refusal<'a>> {
+    let mut binaries = Vec::new(host.alloc);
+    for file in &given.arguments.files {
+        let image = filled_image(given, Some(*file), asked, host)?;
+        add_binary(
+            &mut binaries,
+            host.alloc,
+            Some(*file),
+            &image,
+            &mut host.complaints,
+        )?;
+    }
+    put_disk(name, binaries.as_slice(), host)
 }
 
 // Writes the file of an image in the format that the arguments name.
@@ -140,8 +200,52 @@ fn put_object<'a, S, D: Desk, C, R, W: Output, E: Output>(
     Ok(())
 }
 
-/// Writes the image of a source or of a file of another program, in the format that the arguments name, or as a tape. The exit status is 1 if
-/// the file has an error, or if the format cannot have this image.
+// What the files are, and the byte for each gap.
+#[derive(Clone, Copy)]
+struct Asked {
+    form: Option<FileForm>,
+    fill: Option<u8>,
+}
+
+// Fails if an output would overwrite one of the files.
+fn refuse_overwriting<'a, D: Desk>(
+    given: &CommandArgs<'_, 'a>,
+    desk: &D,
+) -> Result<(), Refusal<'a>> {
+    let out = given.arguments.text(&OBJECT_OUT);
+    let (disk, tape) = (given.arguments.text(&DISK), given.arguments.text(&TAPE));
+    for file in &given.arguments.files {
+        let (name, _) = split_disk(Some(*file));
+        refuse_overwriting_input(Message::ObjectOverwrites, out, name, desk)?;
+        refuse_overwriting_input(Message::ObjectOverwrites, disk, name, desk)?;
+        refuse_overwriting_input(Message::ObjectOverwrites, tape, name, desk)?;
+    }
+    Ok(())
+}
+
+// Writes what the arguments ask for, of one file.
+fn put_one<'a, S: Shelf, D: Desk, C, R: Input, W: Output, E: Output>(
+    given: &CommandArgs<'_, 'a>,
+    asked: Asked,
+    host: &mut Host<S, D, C, R, W, E>,
+) -> Result<(), Refusal<'a>> {
+    let file = given.arguments.file();
+    let (disk, tape) = (given.arguments.text(&DISK), given.arguments.text(&TAPE));
+    let image = filled_image(given, file, asked, host)?;
+    if let Some(disk) = disk {
+        put_file(file, disk, &image, host)?;
+    }
+    if let Some(tape) = tape {
+        put_tape(file, tape, &image, host)?;
+    }
+    if given.arguments.text(&OBJECT_OUT).is_some() || (disk.is_none() && tape.is_none()) {
+        put_object(given, &image, host)?;
+    }
+    Ok(())
+}
+
+/// Writes the image of a source or of a file of another program, in the format that the arguments name, as a tape or as a file on a disk; or
+/// writes a disk with several files. The exit status is 1 if a file has an error, or if the format cannot have this image.
 #[inline(never)]
 pub fn object_of<'a, S: Shelf, D: Desk, C, R: Input, W: Output, E: Output>(
     given: &CommandArgs<'_, 'a>,
@@ -149,27 +253,19 @@ pub fn object_of<'a, S: Shelf, D: Desk, C, R: Input, W: Output, E: Output>(
 ) -> Result<u8, Refusal<'a>>
     ensures { IfOk result (λ status. status ≤ 1) }
 {
-    let (file, tape) = (given.arguments.file(), given.arguments.text(&TAPE));
-    let (form, fill) = (form_of_option(given)?, fill_in(given)?);
-    let (out, disk) = (
-        given.arguments.text(&OBJECT_OUT),
-        given.arguments.text(&DISK),
-    );
-    refuse_overwriting_input(Message::ObjectOverwrites, out, file, &host.desk)?;
-    refuse_overwriting_input(Message::ObjectOverwrites, tape, file, &host.desk)?;
-    refuse_overwriting_input(Message::ObjectOverwrites, disk, file, &host.desk)?;
-    let mut image = loaded_image(file, form, host)?;
-    if let Some(fill) = fill {
-        fill_gaps(&mut image, fill);
+    let asked = Asked {
+        form: form_of_option(given)?,
+        fill: fill_in(given)?,
+    };
+    refuse_overwriting(given, &host.desk)?;
+    if given.arguments.files.len() < 2 {
+        put_one(given, asked, host)?;
+        return Ok(0);
     }
-    if let Some(disk) = disk {
-        put_disk(file, disk, &image, host)?;
-    }
-    if let Some(tape) = tape {
-        put_tape(file, tape, &image, host)?;
-    }
-    if out.is_some() || (disk.is_none() && tape.is_none()) {
-        put_object(given, &image, host)?;
+    let is_alone = !given.arguments.has(&OBJECT_OUT) && !given.arguments.has(&TAPE);
+    match given.arguments.text(&DISK) {
+        Some(disk) if is_alone => put_files(given, disk, asked, host)?,
+        _ => return Err(Refusal::new(Message::SeveralFilesForObject)),
     }
     Ok(0)
 }

@@ -226,8 +226,8 @@ struct Loaded<'t> {
     names: Vec<NamedPlace<'t>>,
 }
 
-// Writes the source of a file, or reports why there is none, and returns the exit status.
-fn source_from<'a, S, D, C, R, W: Output, E: Output>(
+/// Writes the source of a file, or reports why there is none, and returns the exit status. `lines` has the names that are given to addresses.
+pub(crate) fn source_from<'a, S, D, C, R, W: Output, E: Output>(
     given: &CommandArgs<'_, 'a>,
     asked: &mut Asked,
     lines: &Source,
@@ -270,6 +270,6 @@ pub fn source_of<'a, S: Shelf, D, C, R: Input, W: Output, E: Output>(
     let form = form_of_option(given)?;
     let mut asked = asked_in(host.alloc, given.arguments)?;
     let lines = names_source(given.arguments, host)?;
-    let contents = contents_in(given.arguments.file(), form, host)?;
+    let contents = contents_in(given, given.arguments.file(), form, host)?;
     source_from(given, &mut asked, &lines, &contents, host)
 }
