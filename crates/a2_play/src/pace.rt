@@ -6,10 +6,13 @@ ghost use Rattle.a2_play.specs.Paces as paces;
 /// The cycles that an Apple II runs in a second.
 const APPLE: u32 = 1_022_727;
 
-/// The slowest and the fastest pace that `slower` and `faster` can reach.
+/// The slowest and the fastest pace that a session can have.
 const SLOWEST: u32 = 1_000;
 
 const FASTEST: u32 = 1_000_000_000;
+
+/// The parts of a cycle in a `Tempo`. From the fastest pace, twenty halvings reach the slowest; so none of them has a rest.
+const PARTS: u64 = 1_048_576;
 
 /// The cycles to run before the clock is read again, at `Max`.
 const STRETCH: u64 = 1_000_000;
@@ -43,26 +46,68 @@ impl Pace {
     {
         (SLOWEST..=FASTEST).contains(&cycles)
     }
+}
 
-    /// Returns a pace twice as fast, up to 1,000,000,000 cycles a second. `Max` stays the same.
-    pub fn faster(self) -> Pace
-        ensures { result ≡ paces.faster self }
+// Returns the number of cycles a second that is nearest to this one and within bounds.
+fn within_bounds(cycles: u64) -> u32
+    ensures { result ≡ paces.within_bounds cycles }
+{
+    if cycles < u64::from(SLOWEST) {
+        SLOWEST
+    } else if cycles > u64::from(FASTEST) {
+        FASTEST
+    } else {
+        cycles as u32
+    }
+}
+
+/// A pace that is doubled and halved without a loss, so that it can be reached again.
+#[derive(Clone, Copy)]
+pub(crate) enum Tempo {
+    /// This many parts of a cycle a second. A cycle has 2^20 parts.
+    Parts(u64),
+    /// As many cycles as possible.
+    Max,
+}
+
+impl Tempo {
+    /// Returns the tempo of a pace.
+    pub fn of(pace: Pace) -> Tempo
+        ensures { result ≡ paces.tempo pace }
     {
-        match self {
-            Pace::Cycles(cycles) if cycles <= FASTEST / 2 => Pace::Cycles(cycles * 2),
-            Pace::Cycles(_) => Pace::Cycles(FASTEST),
-            Pace::Max => Pace::Max,
+        match pace {
+            Pace::Cycles(cycles) => Tempo::Parts(u64::from(cycles) * PARTS),
+            Pace::Max => Tempo::Max,
         }
     }
 
-    /// Returns a pace half as fast, down to 1,000 cycles a second. `Max` stays the same.
-    pub fn slower(self) -> Pace
+    /// Returns the pace, in whole cycles from 1,000 to 1,000,000,000 a second.
+    pub fn pace(self) -> Pace
+        ensures { result ≡ paces.pace self }
+    {
+        match self {
+            Tempo::Parts(parts) => Pace::Cycles(within_bounds(parts / PARTS)),
+            Tempo::Max => Pace::Max,
+        }
+    }
+
+    /// Returns a tempo twice as fast, unless this is the fastest. `Max` stays the same.
+    pub fn faster(self) -> Tempo
+        ensures { result ≡ paces.faster self }
+    {
+        match self {
+            Tempo::Parts(parts) if parts < u64::from(FASTEST) * PARTS => Tempo::Parts(parts * 2),
+            tempo => tempo,
+        }
+    }
+
+    /// Returns a tempo half as fast, unless this is the slowest. `Max` stays the same.
+    pub fn slower(self) -> Tempo
         ensures { result ≡ paces.slower self }
     {
         match self {
-            Pace::Cycles(cycles) if cycles / 2 > SLOWEST => Pace::Cycles(cycles / 2),
-            Pace::Cycles(_) => Pace::Cycles(SLOWEST),
-            Pace::Max => Pace::Max,
+            Tempo::Parts(parts) if parts > u64::from(SLOWEST) * PARTS => Tempo::Parts(parts / 2),
+            tempo => tempo,
         }
     }
 }

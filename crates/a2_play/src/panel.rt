@@ -30,6 +30,8 @@ pub struct PanelContents {
     /// The cycles run in the last second.
     pub speed: u64,
     pub saves: bool,
+    /// Whether the machine shows hi-res graphics, for which the screen here has no cells.
+    pub has_hidden_graphics: bool,
     /// The message about the last command, if there is one.
     pub notice: Option<&'static [u8]>,
 }
@@ -54,8 +56,10 @@ const LEAST_WIDTH: u16 = 36;
 
 const MOST_WIDTH: u16 = 255;
 
-/// The rows of the state, the pace, the speed, the commands, the saved keys, the registers, what can be done next,
-/// and what a stop means; then the smallest and largest number of rows of the terminal.
+/// The rows of the graphics, the state, the pace, the speed, the commands, the saved keys, the registers, what can be
+/// done next, and what a stop means; then the smallest and largest number of rows of the terminal.
+const GRAPHICS_ROW: u16 = 2;
+
 const STATE_ROW: u16 = 3;
 
 const PACE_ROW: u16 = 4;
@@ -147,6 +151,15 @@ fn state_text(state: State) -> &'static [u8] {
     }
 }
 
+// Returns what is said about graphics that are not shown.
+fn graphics_text(face: &PanelContents) -> &'static [u8] {
+    if face.has_hidden_graphics {
+        b"hi-res graphics are not shown"
+    } else {
+        b""
+    }
+}
+
 // Returns the text below the registers: the message about the last command, or what can be done after a stop.
 fn notice_text(face: &PanelContents) -> &'static [u8] {
     match (face.notice, face.state) {
@@ -197,6 +210,7 @@ pub fn put_panel<W: Output>(
     writer: &mut W,
 ) -> Result<(), WriteFault> {
     put_row(1, b"a2lab play", writer)?;
+    put_row(GRAPHICS_ROW, graphics_text(face), writer)?;
     put_row(STATE_ROW, state_text(face.state), writer)?;
     put_pace(face, writer)?;
     for (row, order) in (ORDER_ROW..SAVE_ROW).zip(ORDERS) {

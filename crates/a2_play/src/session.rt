@@ -1,15 +1,16 @@
 //! Runs a session at a terminal. In a loop, it reads what was typed, runs the cycles that are due, and draws what
 //! changed.
 
-ghost use Rattle.std.specs.Prelude.{◌≡◌, ◌<◌};
+ghost use Rattle.std.specs.Prelude.{◌≡◌, ◌<◌, ◌&&◌, not};
 ghost use Rattle.a2_play.specs.Played.{IsPlayed};
 
 use crate::Clock;
-use crate::pace::{Pace, SECOND, due, second};
+use crate::pace::{Pace, SECOND, Tempo, due, second};
 use crate::panel::{PanelContents, State, TerminalSize, put_counts, put_panel};
 use crate::player::Player;
 use crate::speaker::Speaker;
 use a2_machine::Cause;
+use a2_page::Switches;
 use a2_run::{AssembledText, RunFault};
 use a2_stream::{Input, Output, ToWrite, WriteFault, put};
 use a2_symbols::report_stop;
@@ -66,7 +67,7 @@ pub struct Session<'a> {
     assembled: &'a AssembledText<'a>,
     player: Player,
     state: State,
-    pace: Pace,
+    tempo: Tempo,
     colours: Colours,
     room: TerminalSize,
     /// The cycles that are due since the start.
@@ -98,7 +99,7 @@ impl<'a> Drop for Session<'a> {
             assembled: _,
             player: _,
             state: _,
-            pace: _,
+            tempo: _,
             colours: _,
             room: _,
             goal: _,
@@ -146,7 +147,7 @@ impl<'a> Session<'a> {
             assembled,
             player,
             state: State::Going,
-            pace,
+            tempo: Tempo::of(pace),
             colours,
             room,
             goal: 0,
@@ -203,7 +204,7 @@ impl<'a> Session<'a> {
     pub fn listen(&mut self, alloc: Global) -> Result<(), AllocError>
         ensures { self.new ≡ self.old }
     {
-        if self.pace != Pace::Max {
+        if self.tempo.pace() != Pace::Max {
             self.speaker = Some(Speaker::new(alloc, self.player.machine())?);
         }
         Ok(())
@@ -242,7 +243,7 @@ impl<'a> Session<'a> {
     // Goes back a second. If the machine was running, it continues from there; otherwise it is paused.
     fn go_back(&mut self) {
         self.player
-            .go_back(self.assembled.program(), second(self.pace));
+            .go_back(self.assembled.program(), second(self.tempo.pace()));
         self.forget_moves();
         self.goal = self.player.machine().cycles();
         self.state = match self.state {
@@ -273,8 +274,8 @@ impl<'a> Session<'a> {
                 self.note(cause, State::Paused, State::Paused);
             }
             (Order::Pause | Order::Step, State::Stopped(_)) => {}
-            (Order::Faster, _) => self.pace = self.pace.faster(),
-            (Order::Slower, _) => self.pace = self.pace.slower(),
+            (Order::Faster, _) => self.tempo = self.tempo.faster(),
+            (Order::Slower, _) => self.tempo = self.tempo.slower(),
             (Order::Back, _) => self.go_back(),
             (Order::Restart, _) => self.restart(),
             (Order::Save, _) => self.saves = true,
@@ -334,7 +335,7 @@ impl<'a> Session<'a> {
         self.reckoned = now;
         match self.state {
             State::Going | State::Waiting => {
-                self.goal = self.goal.saturating_add(due(self.pace, late));
+                self.goal = self.goal.saturating_add(due(self.tempo.pace(), late));
                 let cause = self.run_to_goal();
                 self.note(cause, State::Going, State::Waiting);
             }
@@ -361,7 +362,7 @@ impl<'a> Session<'a> {
 
     // Returns whether the machine runs as fast as possible and the next draw is not due yet.
     fn is_ahead(&self, now: u64) -> bool {
-        self.pace == Pace::Max
+        self.tempo.pace() == Pace::Max
             && self.state == State::Going
             && now.saturating_sub(self.drawn) < FRAME
     }
@@ -370,12 +371,20 @@ impl<'a> Session<'a> {
     fn face(&self) -> PanelContents {
         PanelContents {
             state: self.state,
-            pace: self.pace,
+            pace: self.tempo.pace(),
             speed: self.speed,
             saves: self.saves,
+            has_hidden_graphics: has_hidden_graphics(self.player.machine().view().switches),
             notice: self.notice,
         }
     }
+}
+
+// Returns whether these switches show hi-res graphics.
+fn has_hidden_graphics(switches: Switches) -> bool
+    ensures { result ≡ (not switches.text && switches.hires) }
+{
+    !switches.text && switches.hires
 }
 
 // Returns what a stop means, in a line, or an empty text if there is no stop.
@@ -431,7 +440,7 @@ fn put_steps<W: Output>(
 
 // Writes when the speaker moved since the last draw.
 fn put_moves<W: Output>(session: &mut Session<'_>, writer: &mut W) -> Result<(), WriteFault> {
-    let rate = second(session.pace);
+    let rate = second(session.tempo.pace());
     match &mut session.speaker {
         Some(speaker) => speaker.report(rate, writer),
         None => Ok(()),

@@ -45,6 +45,13 @@ light false true = upper
 light true false = 0xE2 ∷ 0x96 ∷ 0x84 ∷ []
 light false false = 0xE2 ∷ 0x96 ∷ 0x88 ∷ []
 
+-- the same in ASCII
+abbrev pub light_in_ascii : Bool → Bool → List ℕ
+light_in_ascii true true = codes " "
+light_in_ascii false true = codes "\""
+light_in_ascii true false = codes "_"
+light_in_ascii false false = codes "#"
+
 -- what a cell shows, written at the cursor
 abbrev pub tile_text : Colours → Tile → List ℕ
 tile_text colours (Letter code) = escape ++ (codes "0m" ++ code ∷ [])
@@ -52,6 +59,7 @@ tile_text colours (Inverse code) = escape ++ (codes "0;7m" ++ code ∷ [])
 tile_text have.Full (Blocks above below) = halves_text (codes "2;") (slice_index_or rgb_values above []) (slice_index_or rgb_values below [])
 tile_text have.Palette (Blocks above below) = halves_text (codes "5;") (slice_index_or nearest above []) (slice_index_or nearest below [])
 tile_text have.None (Blocks above below) = escape ++ (codes "0m" ++ light (above == 0) (below == 0))
+tile_text have.Ascii (Blocks above below) = escape ++ (codes "0m" ++ light_in_ascii (above == 0) (below == 0))
 
 -- a cell showed the same before, in a picture whose cells are given by `shows`, from row and column
 abbrev pub is_kept : {S : Type 0} → (S → ℕ → ℕ → Tile) → Option S → ℕ → ℕ → Tile → Bool

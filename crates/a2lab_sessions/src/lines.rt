@@ -6,7 +6,7 @@ use a2_run::RunFault;
 use a2_stream::{Input, Output};
 use a2_syntax::Fault;
 use a2_tty::{Console, Editor, Partner, TalkFault, Typist, talk};
-use a2lab_commands::{Terminal, report_fault};
+use a2lab_commands::{INPUT, Refusal, Terminal, report_fault};
 use std::alloc::Global;
 use std::cell::Cell;
 
@@ -58,7 +58,7 @@ fn report_session_end<E: Output>(answer: Result<(), TalkFault>, complaints: &mut
 {
     match answer {
         Ok(()) => 0,
-        Err(TalkFault::Read) => report_fault(RunFault::Read, complaints),
+        Err(TalkFault::Read) => Refusal::Unread(INPUT).report(complaints),
         Err(TalkFault::Write) => report_fault(RunFault::Write, complaints),
         Err(TalkFault::Endless) => report_fault(RunFault::Script(Fault::TooLarge(0)), complaints),
     }

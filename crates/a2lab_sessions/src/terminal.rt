@@ -9,7 +9,8 @@ use a2_run::RunFault;
 use a2_stream::{Input, Output};
 use a2lab_commands::options::MONITOR_PLAIN;
 use a2lab_commands::{
-    CommandArgs, Host, Message, Refusal, Terminal, is_input, loaded_text, report_source_errors,
+    CommandArgs, Host, Message, Refusal, Terminal, expanded_text, is_input, loaded_text,
+    report_source_errors,
 };
 use std::alloc::Global;
 use std::cell::Cell;
@@ -71,6 +72,26 @@ fn mon<S, D, C, R: Input, W: Output, E: Output>(
     }
 }
 
+// Answers the Monitor lines of the input, with the expansion of a source loaded that is not a plain one. Reports the errors of a plain source.
+fn mon_expanded<'a, S: Shelf, D, C, R: Input, W: Output, E: Output>(
+    file: Option<&'a str>,
+    text: Vec<u8>,
+    is_plain: bool,
+    lines: Lines<'_>,
+    host: &mut Host<S, D, C, R, W, E>,
+) -> Result<u8, Refusal<'a>>
+    ensures { IfOk result (λ status. status ≤ 5) }
+{
+    let alloc = host.alloc;
+    let text = expanded_text(alloc, file, text, &mut host.shelf, &mut host.complaints)?;
+    match mon(Some(text.as_slice()), is_plain, lines, host) {
+        Err(RunFault::Source(_)) => {
+            Err(report_source_errors(alloc, file, text.as_slice(), &mut host.complaints))
+        }
+        answer => Ok(answer?),
+    }
+}
+
 /// Answers Monitor lines, each before the next is read, until the input ends or `quit`. If the arguments name a file, its object lines or
 /// its source are loaded first. At a terminal there is a prompt before each line. If the terminal gives each byte as it is typed,
 /// lines are edited, and a program that waits for a key takes it from the terminal.
@@ -104,11 +125,9 @@ pub fn mon_of<'a, S: Shelf, D, C, R: Input, W: Output, E: Output>(
         has_panes: false,
         keys: keyboard.as_ref(),
     };
-    let text = text.as_ref().map(Vec::as_slice);
-    match (mon(text, is_plain, lines, host), text) {
-        (Err(RunFault::Source(_)), Some(text)) => {
-            Err(report_source_errors(host.alloc, file, text, &mut host.complaints))
-        }
+    let loaded = text.as_ref().map(Vec::as_slice);
+    match (mon(loaded, is_plain, lines, host), text) {
+        (Err(RunFault::Source(_)), Some(text)) => mon_expanded(file, text, is_plain, lines, host),
         (answer, _) => Ok(answer?),
     }
 }

@@ -16,6 +16,8 @@ pub enum Colours {
     Palette,
     /// None: blocks that are not black are light.
     None,
+    /// None, and only characters of ASCII, for a terminal without block characters.
+    Ascii,
 }
 
 // Returns the red, green and blue values of a lo-res colour. Apple II Reference Manual (1979), page 17, names the
@@ -81,6 +83,18 @@ fn light(above: u8, below: u8) -> &'static [u8]
     }
 }
 
+// Returns the character of ASCII that is nearest to them.
+fn light_in_ascii(above: u8, below: u8) -> &'static [u8]
+    ensures { result.now ≡ written.light_in_ascii (above == 0) (below == 0) }
+{
+    match (above == 0, below == 0) {
+        (true, true) => b" ",
+        (false, true) => b"\"",
+        (true, false) => b"_",
+        (false, false) => b"#",
+    }
+}
+
 // Writes two blocks: the upper half of a cell in one colour, on a background of the other.
 fn put_halves<W: Output>(
     kind: &[u8],
@@ -125,6 +139,9 @@ pub fn put_tile<W: Output>(tile: Tile, colours: Colours, writer: &mut W) -> Resu
         }
         (Tile::Blocks(above, below), Colours::None) => {
             put_all(&[b"\x1B[0m", light(above, below)], writer)
+        }
+        (Tile::Blocks(above, below), Colours::Ascii) => {
+            put_all(&[b"\x1B[0m", light_in_ascii(above, below)], writer)
         }
     }
 }
