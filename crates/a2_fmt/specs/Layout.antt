@@ -81,3 +81,15 @@ row line = fitting line ++ codes "\n"
 -- a text in columns
 abbrev pub laid : List ℕ → List ℕ
 laid text = flat_map row (lines text)
+
+-- a part of a line in its column, as it is written
+abbrev pub with_part : ℕ → List ℕ → List ℕ → List ℕ
+with_part column front part = if length part == 0 then front else padded column front ++ part
+
+-- a comment after the other parts of a line, or alone in the column of operations
+abbrev pub with_remark : List ℕ → List ℕ → List ℕ
+with_remark front comment = with_part (if length front == 0 then 8 else 28) front comment
+
+-- the parts of a line in their columns, each as it is written
+abbrev pub spread : List ℕ → List ℕ → List ℕ → List ℕ → List ℕ
+spread label operation operand comment = with_remark (with_part 12 (with_part 8 label operation) operand) comment

@@ -11,3 +11,4 @@ mod same;
 
 pub use fault::FormatFault;
 pub use format::format_source;
+pub use line::{LineParts, line_in_columns};

@@ -174,3 +174,44 @@ pub(crate) fn put_line<A: Allocator>(
     text.extend_from_slice(b"\n")?;
     Ok(())
 }
+
+/// The parts of a line; each may be empty.
+#[derive(Clone, Copy)]
+pub struct LineParts<'a> {
+    pub label: &'a [u8],
+    pub operation: &'a [u8],
+    pub operand: &'a [u8],
+    pub comment: &'a [u8],
+}
+
+// Appends a part in its column, unless it is empty.
+fn put_part<A: Allocator>(
+    row: &mut Vec<u8, A>,
+    column: usize,
+    part: &[u8],
+) -> Result<(), AllocError>
+    requires { column ≤ 28 }
+    ensures { IfOk result (λ _. row.new.items ≡ layout.with_part column row.old.items part.now) }
+{
+    if part.is_empty() {
+        return Ok(());
+    }
+    pad(row, column)?;
+    row.extend_from_slice(part)
+}
+
+/// Returns the parts of a line in their columns, each as it is written. A comment that is alone is in the column of operations. Fails only if
+/// memory runs out.
+pub fn line_in_columns<A: Allocator>(
+    alloc: A,
+    parts: LineParts<'_>,
+) -> Result<Vec<u8, A>, AllocError>
+    ensures { IfOk result (λ row. row.items ≡ layout.spread parts.entry.label.now parts.entry.operation.now parts.entry.operand.now parts.entry.comment.now) }
+{
+    let mut row = Vec::from_slice(alloc, parts.label)?;
+    put_part(&mut row, OPERATION, parts.operation)?;
+    put_part(&mut row, OPERAND, parts.operand)?;
+    let column = if row.is_empty() { OPERATION } else { COMMENT };
+    put_part(&mut row, column, parts.comment)?;
+    Ok(row)
+}

@@ -1,6 +1,7 @@
 //! The errors and warnings of a document, and what corrects them.
 
 use crate::json::{chars, comma, number, raw, string};
+use crate::larger::found_in_larger;
 use crate::page::{Page, Span, number_at};
 use a2_asm::Program;
 use a2_check::{
@@ -27,8 +28,8 @@ pub(crate) struct Noted {
     pub text: Vec<u8>,
 }
 
-// Returns the errors of a text as JSON.
-fn errors_of<A: Allocator + Copy>(
+/// Returns the errors of a text as JSON.
+pub(crate) fn errors_of<A: Allocator + Copy>(
     alloc: Global,
     arena: A,
     text: &[u8],
@@ -65,8 +66,12 @@ fn sentence<'a>(report: &'a [u8], line: &[u8]) -> &'a [u8] {
     rest
 }
 
-// Returns a warning with its sentence.
-fn note_of(alloc: Global, lines: &[&[u8]], warning: &Warning) -> Result<Noted, AllocError> {
+/// Returns a warning with its sentence.
+pub(crate) fn note_of(
+    alloc: Global,
+    lines: &[&[u8]],
+    warning: &Warning,
+) -> Result<Noted, AllocError> {
     let mut report = Kept::new(alloc);
     if put_warnings("", lines, &[*warning], &mut report).is_err() {
         return Err(AllocError);
@@ -95,6 +100,14 @@ fn warnings_in<A: Allocator + Copy>(
 
 /// Returns the errors or warnings of a document.
 pub(crate) fn found_in(page: &Page<'_>) -> Result<Found, AllocError> {
+    match found_in_larger(page)? {
+        Some(found) => Ok(found),
+        None => found_in_plain(page),
+    }
+}
+
+// Returns the errors or warnings of a document in the plain language.
+fn found_in_plain(page: &Page<'_>) -> Result<Found, AllocError> {
     // The lines and the program are allocated in an arena and freed together.
     let arena = Bump::new(page.alloc);
     match verdict_of(&arena, page.text)? {

@@ -10,6 +10,7 @@ mod documents;
 mod hints;
 mod hover;
 mod json;
+mod larger;
 mod layout;
 mod names;
 mod page;

@@ -11,7 +11,7 @@ use a2_run::{AssembledText, RunArgs, RunFault, read_text};
 use a2_stream::{Input, Output, WriteFault};
 use a2_timed_keys::{Record, Typed, record_of};
 use a2lab_commands::{
-    CommandArgs, Host, Message, Refusal, Value, loaded_text, report, report_fault,
+    CommandArgs, Host, INPUT, Message, Refusal, Value, loaded_text, report, report_fault,
 };
 use a2lab_sessions::{bring, by_steps};
 use serde_json::json;
@@ -284,7 +284,7 @@ fn report_adapter_fault<E: Output>(fault: AdapterFault, complaints: &mut E) -> u
 {
     match fault {
         AdapterFault::Write => report_fault(RunFault::Write, complaints),
-        AdapterFault::Packet(PacketFault::Read) => report_fault(RunFault::Read, complaints),
+        AdapterFault::Packet(PacketFault::Read) => Refusal::Unread(INPUT).report(complaints),
         AdapterFault::Memory | AdapterFault::Packet(PacketFault::Memory) => {
             report_fault(RunFault::Memory, complaints)
         }

@@ -7,7 +7,7 @@ use a2_lsp::{Server, Stage};
 use a2_packets::{PacketFault, read_packet};
 use a2_run::RunFault;
 use a2_stream::{Input, Output, put};
-use a2lab_commands::{CommandArgs, Host, Message, Refusal, Value, report};
+use a2lab_commands::{CommandArgs, Host, INPUT, Message, Refusal, Value, report};
 
 // Returns the exit status of a session that ended at this stage, as the protocol defines it: 0 if the client asked for the end before.
 fn status_at(stage: Stage) -> u8
@@ -24,7 +24,7 @@ fn broken<'a, E: Output>(fault: PacketFault, complaints: &mut E) -> Result<Optio
     ensures { IfOk result (λ status. IfSome status (λ status. status ≤ 5)) }
 {
     match fault {
-        PacketFault::Read => return Err(Refusal::Fault(RunFault::Read)),
+        PacketFault::Read => return Err(Refusal::Unread(INPUT)),
         PacketFault::Memory => return Err(Refusal::Fault(RunFault::Memory)),
         PacketFault::TooLong => return Ok(None),
         _ => {}

@@ -5,6 +5,7 @@ ghost use Rattle.a2_fmt.specs.Formatted.{CanBeFormatted, IsFormatFault};
 ghost use Rattle.a2_fmt.specs.Layout.{laid};
 ghost use Rattle.a2lab_sources.specs.Columns.{Shows, Names, Rewrites};
 
+use crate::columns::larger_columns;
 use a2_arguments::Arguments;
 use a2_check::{Format, ReportFault, put_refusals, refusals_of};
 use a2_fmt::{FormatFault, format_source};
@@ -13,7 +14,8 @@ use a2_run::RunFault;
 use a2_stream::{Input, Output, WriteFault, put, put_all};
 use a2lab_commands::options::{CHECK, WRITE};
 use a2lab_commands::{
-    CommandArgs, Host, Message, Refusal, Value, is_input, report, settled, text_of,
+    CommandArgs, Host, Message, Reading, Refusal, Value, is_input, reading_of, report, settled,
+    text_of,
 };
 use std::alloc::Global;
 
@@ -190,6 +192,81 @@ fn report_fmt_fault<'a, E: Output>(
     }
 }
 
+// Does what is asked for with a source of the larger language in columns, and returns the exit status.
+fn put_columns<S, D: Desk, C, R, W: Output, E>(
+    way: Way,
+    name: &str,
+    text: &[u8],
+    columns: &[u8],
+    host: &mut Host<S, D, C, R, W, E>,
+) -> Result<u8, WriteFault>
+    ensures { IfOk result (λ status. status ≤ 6) }
+{
+    match way {
+        Way::Show => put(columns, &mut host.output)?,
+        Way::Check => {
+            if columns != text {
+                put_all(&[name.as_bytes(), b"\n"], &mut host.output)?;
+                return Ok(NOT_IN_COLUMNS);
+            }
+        }
+        Way::Rewrite => {
+            if columns != text {
+                let mut draft = host.desk.begin(name)?;
+                let answer = put(columns, &mut draft);
+                settled(name, draft, answer, &mut host.desk)?;
+            }
+        }
+    }
+    Ok(0)
+}
+
+// Lays out a source of the larger language, and returns the exit status.
+fn fmt_larger<'a, S: Shelf, D: Desk, C, R, W: Output, E: Output>(
+    way: Way,
+    file: Option<&'a str>,
+    text: &[u8],
+    host: &mut Host<S, D, C, R, W, E>,
+) -> Result<u8, Refusal<'a>>
+    ensures { IfOk result (λ status. status ≤ 6) }
+{
+    let name = file.unwrap_or("-");
+    match larger_columns(host.alloc, file, text, &mut host.shelf)? {
+        Some(columns) => Ok(put_columns(way, name, text, columns.as_slice(), host)?),
+        None => {
+            report(
+                Message::CannotLayOut,
+                &[Value::Text(name)],
+                &mut host.complaints,
+            );
+            Ok(1)
+        }
+    }
+}
+
+// Lays out a source that is not a plain one, or reports its errors, and returns the exit status.
+fn fmt_other<'a, S: Shelf, D: Desk, C, R, W: Output, E: Output>(
+    way: Way,
+    file: Option<&'a str>,
+    text: &[u8],
+    host: &mut Host<S, D, C, R, W, E>,
+) -> Result<u8, Refusal<'a>>
+    ensures { IfOk result (λ status. status ≤ 6) }
+{
+    match reading_of(host.alloc, file, text, &mut host.shelf)? {
+        Reading::Larger(_) => fmt_larger(way, file, text, host),
+        Reading::Failed(why) => {
+            // If this fails, there is no place left to report it.
+            let _ = put(why.message.as_slice(), &mut host.complaints);
+            Ok(1)
+        }
+        Reading::Plain => {
+            let name = file.unwrap_or("-");
+            report_refusals(host.alloc, name, text, &mut host.complaints)
+        }
+    }
+}
+
 // Does what is asked for with a file or standard input, and returns the exit status, which is 6 if the text is only checked and is not
 // in columns.
 fn fmt_text<'a, S: Shelf, D: Desk, C, R: Input, W: Output, E: Output>(
@@ -210,6 +287,7 @@ fn fmt_text<'a, S: Shelf, D: Desk, C, R: Input, W: Output, E: Output>(
     match done {
         Ok(true) => Ok(0),
         Ok(false) => Ok(NOT_IN_COLUMNS),
+        Err(FmtFault::Layout(FormatFault::Source(_))) => fmt_other(way, file, text, host),
         Err(fault) => report_fmt_fault(host.alloc, name, text, fault, &mut host.complaints),
     }
 }

@@ -4,16 +4,15 @@ ghost use Rattle.std.specs.Prelude.{◌≡◌, ◌≤◌, IfOk};
 ghost use Rattle.a2lab_sources.specs.Imports.{ShowsRows};
 
 use a2_hex::HexFault;
-use a2_host::Shelf;
 use a2_import::{
     Dialect, ImportFault, ListingFault, NoteKind, Old, guess, import_listing, import_source,
 };
 use a2_run::RunFault;
-use a2_stream::{Input, Output, WriteFault, put, put_all};
+use a2_stream::{Output, WriteFault, put, put_all};
 use a2_syntax::Fault;
 use a2_text::{cut, decimal};
 use a2lab_commands::options::DIALECT;
-use a2lab_commands::{CommandArgs, Host, Refusal, is_input, loaded_text, long_text};
+use a2lab_commands::{CommandArgs, Host, Refusal};
 use std::alloc::Global;
 
 // Returns the kind of text that a value of `--from` names, or `None` if it is to be guessed.
@@ -190,27 +189,22 @@ fn import_lines<'a, W: Output, E: Output>(
     Ok(0)
 }
 
-/// Converts the file that the arguments name, or standard input. `--from` may be before the file or after it. Reports each line that
+/// Converts a text, the contents of the file `file` or of standard input. `--from` may be before the file or after it. Reports each line that
 /// means something else now or cannot be converted, or why nothing can be, and returns the exit status.
 #[inline(never)]
-pub fn import_of<'a, S: Shelf, D, C, R: Input, W: Output, E: Output>(
+pub fn import_text<'a, S, D, C, R, W: Output, E: Output>(
     given: &CommandArgs<'_, 'a>,
+    file: Option<&str>,
+    text: &[u8],
     host: &mut Host<S, D, C, R, W, E>,
 ) -> Result<u8, Refusal<'a>>
     ensures { IfOk result (λ status. status ≤ 1) }
 {
-    let old = from_named(given.arguments.text(&DIALECT).unwrap_or("auto"));
-    let file = given.arguments.file();
-    let text = match file {
-        Some(name) if !is_input(name) => loaded_text(host.alloc, name, &mut host.shelf)?,
-        _ => long_text(host.alloc, &mut host.input)?,
-    };
-    let (name, text) = (file.unwrap_or("-"), text.as_slice());
-    let old = match old {
+    let (alloc, name) = (host.alloc, file.unwrap_or("-"));
+    let old = match from_named(given.arguments.text(&DIALECT).unwrap_or("auto")) {
         Some(old) => old,
-        None => guess(host.alloc, text)?,
+        None => guess(alloc, text)?,
     };
-    let alloc = host.alloc;
     match old {
         Old::Listing => import_rows(alloc, name, text, &mut host.output, &mut host.complaints),
         Old::Source(dialect) => import_lines(

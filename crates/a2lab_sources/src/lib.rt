@@ -1,4 +1,4 @@
-//! The commands of `a2lab` that read a source and do not run it: `check`, `list`, `fmt`, `expand` and `import`.
+//! The commands of `a2lab` that read a source and do not run it: `check`, `list`, `fmt`, `expand`, and `import` of a text.
 //!
 //! How it is called is shown in CALLING.md.
 #![tactic(auto)]
@@ -7,6 +7,7 @@
 
 mod authors;
 mod checking;
+mod columns;
 mod expanding;
 mod fmt;
 mod import;
@@ -15,5 +16,5 @@ mod listing;
 pub use checking::{check_of, put_warnings_of};
 pub use expanding::expand_of;
 pub use fmt::fmt_of;
-pub use import::import_of;
+pub use import::import_text;
 pub use listing::list_of;
