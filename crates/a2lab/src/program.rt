@@ -8,7 +8,7 @@ use a2_manual::{manual, near, topic};
 use a2_play::Clock;
 use a2_run::RunFault;
 use a2_stream::{Input, Output, put};
-use a2lab_bytes::{diff_of, object_of, source_of};
+use a2lab_bytes::{diff_of, import_of, object_of, source_of};
 use a2lab_commands::{
     CommandArgs, CommandRow, Host, Message, Refusal, Terminal, Terminals, Tool, Value, after_first,
     command_named, nearest_command, put_page, put_use, report, report_arguments, report_fault,
@@ -18,7 +18,7 @@ use a2lab_editors::{dap_of, lsp_of};
 use a2lab_promises::promise_of;
 use a2lab_reports::{film_of, profile_of, run_of, test_of, trace_of};
 use a2lab_sessions::{debug_of, mon_of, play_of};
-use a2lab_sources::{check_of, expand_of, fmt_of, import_of, list_of};
+use a2lab_sources::{check_of, expand_of, fmt_of, list_of};
 use std::alloc::{AllocError, Global};
 
 // Reports an unknown command and which one may be meant, and returns the exit status.

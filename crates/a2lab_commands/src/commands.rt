@@ -76,6 +76,14 @@ const ONE_IMAGE: Files = Files {
     most: 1,
 };
 
+// The sources and images of a command that can read one from standard input.
+const IMAGES: Files = Files {
+    form: "[F..]",
+    endings: "",
+    least: 0,
+    most: usize::MAX,
+};
+
 const SOURCES: Files = Files {
     form: "[F..]",
     endings: ".s",
@@ -106,6 +114,8 @@ const WANT_LINES: &str = "WANT has lines of these forms:
   call NAME A=05 $320=07   calls the routine NAME with these bytes
   screen                   the rows of the screen are on the next lines
   |TEXT                    a row of the screen, after a line screen
+  attr                     the rows that run --attr prints are on the next
+                           lines, each after |
   screen row 0 = \"TEXT\"    a row of the screen is TEXT; the top row is 0
   screen holds \"TEXT\"      some row of the screen contains TEXT
   screen row 0 is inverse \"TEXT\"
@@ -274,12 +284,7 @@ fn source_row() -> CommandRow {
         command: Command {
             name: "source",
             summary: "writes a source that has the bytes of F, a dump or any file",
-            files: Files {
-                form: "[F]",
-                endings: "",
-                least: 0,
-                most: 1,
-            },
+            files: ONE_IMAGE,
             options: &SOURCE_OPTIONS,
             notes: "An address A or B is 300 or '$300'. A..B may be one address.
 ",
@@ -293,9 +298,9 @@ fn object_row() -> CommandRow {
         command: Command {
             name: "object",
             summary: "writes the bytes of F for another program, or as a tape",
-            files: ONE_IMAGE,
+            files: IMAGES,
             options: &OBJECT_OPTIONS,
-            notes: "F is a source, or a file of one of the formats.
+            notes: "F is a source, or a file of one of the formats. Only --dsk takes several.
 ",
         },
     }

@@ -15,13 +15,28 @@ use std::alloc::Global;
 // 178,176.
 const MOST_LOADED: usize = 1 << 20;
 
-/// Reads a text of at most a megabyte, to import or to load into a session.
-pub fn long_text<'a, R: Input>(alloc: Global, reader: &mut R) -> Result<Vec<u8>, Refusal<'a>> {
-    let text = read_front(alloc, reader, MOST_LOADED + 1)?;
+/// What messages call standard input.
+pub const INPUT: &str = "standard input";
+
+// Reads a text of at most a megabyte, which messages call `name`.
+fn text_from<'a, R: Input>(
+    alloc: Global,
+    name: &'a str,
+    reader: &mut R,
+) -> Result<Vec<u8>, Refusal<'a>> {
+    let text = match read_front(alloc, reader, MOST_LOADED + 1) {
+        Ok(text) => text,
+        Err(fault) => return Err(Refusal::of_reading(name, fault)),
+    };
     if text.len() > MOST_LOADED {
         return Err(Refusal::Fault(RunFault::Source(Fault::TooLarge(0))));
     }
     Ok(text)
+}
+
+/// Reads a text of at most a megabyte from standard input, to import or to load into a session.
+pub fn long_text<'a, R: Input>(alloc: Global, reader: &mut R) -> Result<Vec<u8>, Refusal<'a>> {
+    text_from(alloc, INPUT, reader)
 }
 
 /// Reads the file `name`, of at most a megabyte, to import it or to load it into a session.
@@ -33,7 +48,7 @@ pub fn loaded_text<'a, S: Shelf>(
     let Ok(mut reader) = shelf.open(name) else {
         return Err(Refusal::Unopened(name));
     };
-    long_text(alloc, &mut reader)
+    text_from(alloc, name, &mut reader)
 }
 
 /// Reads the source `file`, or standard input if there is none or it is `-`.
@@ -46,16 +61,19 @@ pub fn text_of<'a, S: Shelf, R: Input>(
     // Standard input is not read in place of a file that cannot be opened.
     ensures unread { IfSome file.entry (λ name. name.now ≢ codes "-" → input.new ≡ input.old) }
 {
-    let read = match file {
+    let (name, read) = match file {
         Some(name) if !is_input(name) => {
             let Ok(mut reader) = shelf.open(name) else {
                 return Err(Refusal::Unopened(name));
             };
-            read_text(alloc, &mut reader)
+            (name, read_text(alloc, &mut reader))
         }
-        _ => read_text(alloc, input),
+        _ => (INPUT, read_text(alloc, input)),
     };
-    Ok(read?)
+    match read {
+        Ok(text) => Ok(text),
+        Err(fault) => Err(Refusal::of_reading(name, fault)),
+    }
 }
 
 /// Refuses to overwrite `input`, which the command reads, with the file `written`, which an option names. `message` says so.

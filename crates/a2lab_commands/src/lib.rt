@@ -34,7 +34,7 @@ pub use expanding::{
     expanded_text_of, expansion_of, reading_of, report_origins,
 };
 pub use fault_report::{report_fault, report_write};
-pub use files::{loaded_text, long_text, refuse_overwriting_input, text_of};
+pub use files::{INPUT, loaded_text, long_text, refuse_overwriting_input, text_of};
 pub use help::{put_page, put_use};
 pub use host::Host;
 pub use messages::{Message, Value, report};

@@ -15,6 +15,7 @@ pub enum Message {
     UnknownTopicNear,
     CannotOpen,
     CannotRead,
+    Unreadable,
     NeedsFile,
     UnknownPlace,
     PartOutsideRam,
@@ -36,12 +37,21 @@ pub enum Message {
     ScriptLine,
     PageOverwrites,
     SourceAsTests,
+    SamePage,
+    TestPageOverwrites,
+    PageNotWritten,
     NoPromise,
     NoFailure,
     FilmOverwrites,
     ObjectOverwrites,
     NotFill,
-    LongFileForDisk,
+    FullDisk,
+    ManyFilesForDisk,
+    SameNameOnDisk,
+    NotNameOnDisk,
+    SeveralFilesForObject,
+    LargeFile,
+    NoFilesOnDisk,
     NoSuchFileOnDisk,
     SeveralFilesOnDisk,
     NotAddress,
@@ -98,6 +108,7 @@ fn sentence(message: Message) -> &'static str {
         Message::CannotOpen => "cannot open @; check its name and its permissions",
         Message::CannotRead =>
             "@: cannot read @; check its name and its permissions, and that it is not a folder",
+        Message::Unreadable => "cannot read @; check its permissions, and that it is not a folder",
         Message::NeedsFile =>
             "@: needs a file, because standard input is for what you type (a2lab help @)",
         Message::UnknownPlace =>
@@ -136,6 +147,12 @@ fn sentence(message: Message) -> &'static str {
         Message::PageOverwrites => "film: the page would overwrite @; give -o another name",
         Message::SourceAsTests =>
             "test: @ looks like a source; the test file comes first, as in a2lab test WANT @",
+        Message::SamePage =>
+            "test: --pages: @ and @ would have the same page; rename one of the two files",
+        Message::TestPageOverwrites =>
+            "test: a page would overwrite @; give --pages another folder",
+        Message::PageNotWritten =>
+            "test: cannot write the page @; check that its folder exists, and its permissions",
         Message::NoPromise =>
             "promise: @ has no promises; write lines such as `;: ensures A = old A + 1` before a label (a2lab help promise)",
         Message::NoFailure => "promise: no routine failed, so the film @ was not written",
@@ -143,12 +160,24 @@ fn sentence(message: Message) -> &'static str {
         Message::ObjectOverwrites => "object: the output would overwrite @; give it another name",
         Message::NotFill =>
             "object: --fill @: expected a byte of one or two hexadecimal digits, such as 00",
-        Message::LongFileForDisk =>
-            "object: --dsk @: the file has more bytes than a disk holds; write it in parts",
+        Message::FullDisk =>
+            "object: --dsk @: @ does not fit: a disk has 496 sectors of 256 bytes for files and for a list of each; write it to another disk",
+        Message::ManyFilesForDisk =>
+            "object: --dsk @: a disk has at most 105 files; write the others to another disk",
+        Message::SameNameOnDisk =>
+            "object: --dsk @: the name that @ would have on the disk is that of an earlier file; rename one of them",
+        Message::NotNameOnDisk =>
+            "object: --dsk @: @ gives no name for the disk: a name begins with a letter and has at most 30 characters, without a comma; rename the file",
+        Message::SeveralFilesForObject =>
+            "object: several files need --dsk, without -o and --tape; give one file for each object or tape",
+        Message::LargeFile =>
+            "@: @ has more than 1048576 bytes, more than any source or image needs; check its name",
+        Message::NoFilesOnDisk =>
+            "@: the disk has no binary file; only files of type B can be read",
         Message::NoSuchFileOnDisk =>
             "@: the disk has no binary file @; the lines above name those that it has",
         Message::SeveralFilesOnDisk =>
-            "@: the disk has no binary file or several, which the lines above name; name one, as in @:HELLO",
+            "@: the disk has several binary files, which the lines above name; choose one, as in @:HELLO",
         Message::NotAddress =>
             "@: --at @: expected an address of one to four hexadecimal digits, such as 300",
         Message::PlainWithoutAddress =>

@@ -152,6 +152,9 @@ pub const PROFILE_KEYS: OptionRow = row!(Texts "--keys" "K",
 pub const PAGE: OptionRow = row!(Text "-o" "PAGE" or "",
     "Writes the page to the file PAGE.");
 
+pub const TITLE: OptionRow = row!(Text "--title" "TEXT" or "",
+    "Gives the page this title; the default is the name of the file.");
+
 pub const FILM_FROM: OptionRow = row!(Number "--from" "N" 0 to 100_000_000 or "0",
     "Begins the film after N steps of the run.");
 
@@ -181,7 +184,7 @@ pub const DIALECT: OptionRow =
 // Options of `source`.
 
 pub const ENTRY: OptionRow = row!(Texts "--entry" "A",
-    "Says that code begins at address A; the default is the address of a G in F, or the lowest address.");
+    "Says that code begins at address A; the default is the address in a line such as 300G in F, or the lowest address.");
 
 pub const CODE: OptionRow = row!(Texts "--code" "A..B",
     "Says that instructions are from address A to address B.");
@@ -217,7 +220,7 @@ pub const AT: OptionRow = row!(Text "--at" "A" or "",
     "Says that F is plain bytes, the first of which is at address A, such as 300.");
 
 pub const FILL: OptionRow = row!(Text "--fill" "XX" or "",
-    "Writes the byte XX at each address between others that has none, such as 00.");
+    "Fills the gaps between the bytes of F with the byte XX, such as 00.");
 
 pub const WIDTH: OptionRow = row!(OneOf "--width" "N" ["8", "23"] or "8",
     "Writes at most N bytes in a Monitor line.");
@@ -229,13 +232,16 @@ pub const TAPE: OptionRow = row!(Text "--tape" "WAV" or "",
     "Writes the sound of a tape to the file WAV, and prints the Monitor line that reads it.");
 
 pub const DISK: OptionRow = row!(Text "--dsk" "DSK" or "",
-    "Writes a disk of DOS 3.3 with this one binary file, and without DOS, to the file DSK.");
+    "Writes a disk of DOS 3.3 with each F as a binary file, and without DOS, to the file DSK.");
 
 // Options of `test`.
 
 pub const TEST_FORMAT: OptionRow =
     row!(OneOf "--format" "FORMAT" ["table", "csv", "json", "junit", "html"] or "table",
     "Writes the results in this format.");
+
+pub const PAGES: OptionRow = row!(Text "--pages" "FOLDER" or "",
+    "Also writes a page for each solution, NAME.html, into the folder FOLDER.");
 
 // Options of `promise`.
 
@@ -244,6 +250,9 @@ pub const STATES: OptionRow = row!(Number "--states" "N" 1 to 100_000_000 or "",
 
 pub const FILM: OptionRow = row!(Text "--film" "PAGE" or "",
     "Writes to the file PAGE the film of the first run that fails.");
+
+pub const PROMISE_JSON: OptionRow = row!(Flag "--json",
+    "Prints one JSON object: the statements and names of F, and each promise with its verdict.");
 
 // Options of `mon`, `play` and `debug`.
 
@@ -256,8 +265,8 @@ pub const PACE: OptionRow = row!(Text "--pace" "N" or "1022727",
 pub const RECORD: OptionRow = row!(Text "--record" "T" or "",
     "At the end of the session, writes each key with its step to the file T, for a2lab run --replay T.");
 
-pub const COLOURS: OptionRow = row!(OneOf "--colours" "C" ["full", "256", "none"] or "",
-    "Shows lo-res in these colours; the default is the colours that the terminal has.");
+pub const COLOURS: OptionRow = row!(OneOf "--colours" "C" ["full", "256", "none", "ascii"] or "",
+    "Shows lo-res in these colours; the default is the colours that the terminal has. With ascii, blocks are characters of ASCII.");
 
 pub const SPEAKER: OptionRow = row!(Flag "--speaker",
     "Reports when the program moves the speaker, for a page that plays the sound.");
@@ -296,8 +305,8 @@ pub static PROFILE_OPTIONS: [OptionRow; 7] = [
     REPLAY,
 ];
 
-pub static FILM_OPTIONS: [OptionRow; 9] = [
-    KEYS, FILM_LIMIT, FREE, PAGE, FILM_FROM, STEPS, SCRIPT, KEYS_AT, REPLAY,
+pub static FILM_OPTIONS: [OptionRow; 10] = [
+    KEYS, FILM_LIMIT, FREE, PAGE, TITLE, FILM_FROM, STEPS, SCRIPT, KEYS_AT, REPLAY,
 ];
 
 pub static FMT_OPTIONS: [OptionRow; 2] = [CHECK, WRITE];
@@ -334,9 +343,9 @@ pub static OBJECT_OPTIONS: [OptionRow; 8] = [
 
 pub static DIFF_OPTIONS: [OptionRow; 2] = [FROM, AT];
 
-pub static TEST_OPTIONS: [OptionRow; 1] = [TEST_FORMAT];
+pub static TEST_OPTIONS: [OptionRow; 2] = [TEST_FORMAT, PAGES];
 
-pub static PROMISE_OPTIONS: [OptionRow; 2] = [STATES, FILM];
+pub static PROMISE_OPTIONS: [OptionRow; 3] = [STATES, FILM, PROMISE_JSON];
 
 pub static MON_OPTIONS: [OptionRow; 1] = [MONITOR_PLAIN];
 

@@ -16,6 +16,8 @@ pub enum Refusal<'a> {
     Fault(RunFault),
     /// No file of this name can be opened.
     Unopened(&'a str),
+    /// The file of this name, or standard input, is opened and cannot be read.
+    Unread(&'a str),
     /// The command cannot do what its arguments ask for, as a message with these values says.
     Message(Message, Value<'a>, Value<'a>),
     /// The source has errors, which are already reported.
@@ -40,12 +42,6 @@ impl<'a> From<WriteFault> for Refusal<'a> {
     }
 }
 
-impl<'a> From<ReadingFault> for Refusal<'a> {
-    fn from(fault: ReadingFault) -> Refusal<'a> {
-        Refusal::Fault(RunFault::from(fault))
-    }
-}
-
 impl<'a> Refusal<'a> {
     /// The error of a message without values.
     pub fn new(message: Message) -> Refusal<'a> {
@@ -62,6 +58,14 @@ impl<'a> Refusal<'a> {
         Refusal::Message(message, Value::Text(first), Value::Text(second))
     }
 
+    /// The error of a file that could not be read, or of standard input. Messages call it `name`.
+    pub fn of_reading(name: &'a str, fault: ReadingFault) -> Refusal<'a> {
+        match fault {
+            ReadingFault::Read => Refusal::Unread(name),
+            ReadingFault::Memory => Refusal::Fault(RunFault::Memory),
+        }
+    }
+
     /// The error of a terminal that is too small. The message has its columns and its rows.
     pub fn of_terminal(message: Message, terminal: Terminal) -> Refusal<'a> {
         let (columns, rows) = (u64::from(terminal.columns), u64::from(terminal.rows));
@@ -76,6 +80,10 @@ impl<'a> Refusal<'a> {
             Refusal::Fault(fault) => return report_fault(fault, complaints),
             Refusal::Unopened(name) => {
                 report(Message::CannotOpen, &[Value::Text(name)], complaints);
+                return 4;
+            }
+            Refusal::Unread(name) => {
+                report(Message::Unreadable, &[Value::Text(name)], complaints);
                 return 4;
             }
             Refusal::Reported => return 1,

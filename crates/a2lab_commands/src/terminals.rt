@@ -34,6 +34,7 @@ pub fn colours_named(word: &str) -> Option<Colours>
         "full" => Some(Colours::Full),
         "256" => Some(Colours::Palette),
         "none" => Some(Colours::None),
+        "ascii" => Some(Colours::Ascii),
         _ => None,
     }
 }
