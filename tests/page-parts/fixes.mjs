@@ -1,4 +1,4 @@
-// Tries the fixes that `a2lab check` shows, for tests/fixes: node fixes.mjs A2LAB [COUNT [SEED]]
+// Tries the fixes that `a2lab check` shows in errors and in warnings, for tests/fixes: node fixes.mjs A2LAB [COUNT [SEED]]
 import {spawnSync} from 'node:child_process';
 import fs from 'node:fs';
 import os from 'node:os';
@@ -39,12 +39,52 @@ function mistaken(line, next) {
   }
 }
 
-function errorsIn(text) {
+/** Returns the errors and the warnings of a source. */
+function foundIn(text) {
   const file = path.join(room, 'f.s');
   fs.writeFileSync(file, text, 'latin1');
   const {status, stdout, stderr} = spawnSync(a2lab, ['check', '--format', 'json', file], {encoding: 'latin1'});
   if (status > 1) throw new Error(`check ended with ${status}: ${stderr}`);
-  return status ? JSON.parse(stdout) : [];
+  const errors = status ? JSON.parse(stdout) : [];
+  const warnings = [...stderr.matchAll(/:(\d+): warning: ([^;\n]*); ([^\n]*)/g)].map(([, line, what, fix]) => ({line: Number(line), what, fix}));
+  return {errors, warnings};
+}
+
+function errorsIn(text) {
+  return foundIn(text).errors;
+}
+
+// What the fix of a warning writes, as [words, change]. `change` returns lines in place of the line and of those before it.
+const WARNED = [
+  [/^write CLC before ADC, or SEC before SBC: /, (before, line) => [...before, /\bSBC\b/i.test(line) ? ' SEC' : ' CLC', line]],
+  [/^write SEC instead of CLC: /, (before, line) => {
+    const at = before.findLastIndex(it => /\bCLC\b/i.test(it));
+    return [...before.with(at, before[at].replace(/\bCLC\b/i, 'SEC')), line];
+  }],
+  [/^write RTS before it: /, (before, line) => [...before, ' RTS', line]],
+  [/^in " " it is shown normally: /, (before, line) => [...before, line.replace(/'([^']*)'?/, '"$1"')]],
+  [/^write capital letters: /, (before, line) => [...before, line.replace(/"[^"]*"/, it => it.toUpperCase())]],
+  [/^write ORG after a blank: /, (before, line) => [...before, line.replace(/^\* *= */, ' ORG ')]],
+  [/^put a blank before an operation: /, (before, line) => [...before, ` ${line}`]],
+  [/^end with RTS or JMP: /, (before, line) => [...before, line, ' RTS']],
+  [/^for a hexadecimal address, write \$ before it: /, (before, line) => [...before, line.replace(/(?<=\s)(?=\d)/, '$')]],
+];
+
+/** Tries the fix of each warning of a source: the fixed source has no error, and fewer warnings of that kind. */
+function tryWarnings(text) {
+  const lines = text.split('\n'), {warnings} = foundIn(text);
+  for (const {line, what, fix} of warnings) {
+    const form = WARNED.find(([words]) => words.test(fix));
+    if (!form) continue;
+    const fixed = [...form[1](lines.slice(0, line - 1), lines[line - 1]), ...lines.slice(line)].join('\n');
+    const {errors, warnings: left} = foundIn(fixed), count = all => all.filter(it => it.what === what).length;
+    if (errors.length || count(left) >= count(warnings)) {
+      ++failed;
+      console.log(`FAILED: ${what}; ${fix}\n${fixed}`);
+    } else {
+      ++passed;
+    }
+  }
 }
 
 /** Returns the sources in the cases: the parts whose names end in .s. */
@@ -76,7 +116,10 @@ function tryFixes(text) {
 }
 
 const folder = path.join(top, 'examples'), examples = fs.readdirSync(folder).filter(it => it.endsWith('.s')).map(it => fs.readFileSync(path.join(folder, it), 'latin1'));
-for (const text of [...examples, ...sourcesOfCases()]) tryFixes(text);
+for (const text of [...examples, ...sourcesOfCases()]) {
+  tryFixes(text);
+  tryWarnings(text);
+}
 const next = generator(Number(seed));
 for (let at = 0; at < Number(count); ++at) {
   const lines = examples[next(examples.length)].split('\n'), line = next(lines.length);
