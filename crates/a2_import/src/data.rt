@@ -1,155 +1,359 @@
 //! Statements that define data.
 
 use crate::dialect::Dialect;
-use crate::parts::{Marked, text_in};
+use crate::expression::value_in;
+use crate::operator::{Operator, PART};
+use crate::parts::texts_len;
+use crate::pieces::{BLANKS, before, cut_at, quotes_of, split_item};
 use crate::reading::Reading;
 use crate::rules::List;
-use crate::token::span;
-use a2_text::decimal;
+use crate::value::{Value, Width};
+use a2_text::{decimal, front_len, hex_pair};
 use std::alloc::{AllocError, Allocator};
 
-// The form of an item in a list.
+// The most bytes of hexadecimal digits in a line.
+const BYTES_IN_A_LINE: usize = 32;
+
+// A line gets no more items after so many characters.
+const LONG_LINE: usize = 180;
+
+/// A delimited text: its delimiter, the text between the delimiters, and the text after them.
 #[derive(Clone, Copy)]
-enum Item {
-    Byte,
-    Word,
-    Text,
+struct Marked<'t> {
+    mark: u8,
+    text: &'t [u8],
+    following: &'t [u8],
 }
 
-// The operation for an item of this form, and the blank after it.
-fn operation_of(item: Item) -> &'static [u8] {
+// The delimited text at the beginning of a text.
+fn text_in(operand: &[u8]) -> Option<Marked<'_>> {
+    let (mark, inner) = operand.split_first()?;
+    let (text, rest) = before(inner, &[*mark]);
+    let (_, following) = cut_at(rest, 1);
+    if rest.is_empty() {
+        return None;
+    }
+    Some(Marked {
+        mark: *mark,
+        text,
+        following,
+    })
+}
+
+// The text in quotes that an item of a list consists of.
+fn whole_text(item: &[u8]) -> Option<&[u8]> {
     match item {
-        Item::Byte => b"DFB ",
-        Item::Word => b"DW ",
-        Item::Text => b"ASC ",
+        [b'"', inner @ .., b'"'] if !inner.contains(&b'"') => Some(inner),
+        [b'\'', inner @ .., b'\''] if !inner.contains(&b'\'') => Some(inner),
+        _ => None,
     }
 }
 
-// The form of an item.
-fn item_of(list: List, dialect: Dialect, text: &[u8]) -> Item {
-    match (list, text.first()) {
-        (List::Bytes, Some(b'"')) if dialect == Dialect::Ca65 => Item::Text,
-        (List::Marked, Some(b'#' | b'/')) | (List::Bytes | List::Low | List::High, _) => Item::Byte,
-        (List::Words | List::Marked, _) => Item::Word,
-    }
+// Whether a byte can be in a text after ASC, between these quotes.
+fn is_plain(c: u8, quote: u8) -> bool {
+    c >= b' ' && c <= b'~' && c != quote
 }
 
 impl<'a, A: Allocator + Copy> Reading<'a, A> {
-    // Appends a byte; a mark selects the byte as it does for an immediate operand.
-    fn put_byte_of(&mut self, list: List, text: &[u8]) -> Result<(), AllocError> {
-        match (list, text) {
-            (List::High, _) => self.put_high(text),
-            (List::Marked, [b'/', rest @ ..]) => self.put_high(rest),
-            (List::Marked, [b'#', rest @ ..]) => self.put_low(rest),
-            (List::Low, _) => self.put_low(text),
-            _ => self.put_byte(text),
+    // Whether the bytes of a text have bit 7 set.
+    fn is_high(&self, minus: bool, mark: u8) -> bool {
+        match self.dialect {
+            Dialect::Sc => minus,
+            Dialect::Edasm => self.high,
+            Dialect::Lisa | Dialect::Merlin => mark < b'\'',
+            _ => self.raised,
         }
     }
 
-    // Appends an item; the bytes of a text have bit 7 clear.
-    fn put_item(&mut self, item: Item, list: List, text: &[u8]) -> Result<(), AllocError> {
-        match item {
-            Item::Byte => self.put_byte_of(list, text),
-            Item::Word => self.put_tokens(text),
-            Item::Text => self.put_quoted(b'\'', text_in(text).text),
-        }
-    }
-
-    // Appends what comes before an item: a comma after an item of the same form, otherwise the start of a new line.
-    fn put_before(&mut self, last: Option<Item>, item: Item) -> Result<(), AllocError> {
-        match (last, item) {
-            (Some(Item::Byte), Item::Byte) | (Some(Item::Word), Item::Word) => self.put(&[b","]),
-            _ => self.put_front(operation_of(item)),
-        }
-    }
-
-    /// Appends the lines for the items of a list. An empty list gives no line and has no label.
-    pub(crate) fn put_list(&mut self, list: List, operand: &[u8]) -> Result<(), AllocError> {
-        if operand.is_empty() {
-            self.front = self.start;
-            self.text.truncate(self.start);
-        }
-        let mut last = None;
-        let mut rest = operand;
-        while !rest.is_empty() {
-            let (text, following) = rest.split_at(span(self.dialect, rest, b","));
-            let text = text.trim_ascii();
-            let item = item_of(list, self.dialect, text);
-            self.put_before(last, item)?;
-            self.put_item(item, list, text)?;
-            last = Some(item);
-            rest = match following {
-                [_, others @ ..] => others,
-                [] => following,
+    // Appends lines with a text whose bytes have bit 7 set or clear.
+    fn put_characters(&mut self, high: bool, text: &[u8]) -> Result<(), AllocError> {
+        let quote = if high { b'"' } else { b'\'' };
+        let mut rest = text;
+        for _ in 0..text.len() {
+            let (plain, following) = cut_at(rest, front_len(rest, |c| is_plain(c, quote)));
+            if !plain.is_empty() {
+                self.put_front(b"ASC ")?;
+                self.put(&[&[quote], plain, &[quote]])?;
+            }
+            let Some((c, others)) = following.split_first() else {
+                break;
             };
+            let byte = if high { *c | 128 } else { *c };
+            self.put_front(b"DFB $")?;
+            self.put(&[&hex_pair(byte)])?;
+            rest = others;
         }
         Ok(())
     }
 
-    /// Appends a line of bytes given in hexadecimal digits, with or without commas between them.
-    pub(crate) fn put_hex(&mut self, digits: &[u8]) -> Result<(), AllocError> {
-        self.put_front(b"DFB ")?;
-        let mut begins = true;
-        let mut between: &[u8] = b"$";
+    /// Appends lines of bytes given in hexadecimal digits, with or without commas between them; returns whether they are such.
+    pub(crate) fn put_hex(&mut self, digits: &[u8]) -> Result<bool, AllocError> {
+        let mut count: usize = 0;
+        let mut first = 0;
         for c in digits {
-            if *c == b',' {
+            let is_between = matches!(*c, b',' | b'$' | b' ')
+                || *c == b'.' && self.dialect == Dialect::Sc;
+            if is_between && first == 0 {
                 continue;
             }
-            if begins {
-                self.text.extend_from_slice(between)?;
+            if !c.is_ascii_hexdigit() {
+                return Ok(false);
             }
-            self.text.push(*c)?;
-            begins = !begins;
-            between = b",$";
+            if first == 0 {
+                first = *c;
+                continue;
+            }
+            if count % BYTES_IN_A_LINE == 0 {
+                self.put_front(b"DFB $")?;
+            } else {
+                self.put(&[b",$"])?;
+            }
+            self.put(&[&[first, *c]])?;
+            first = 0;
+            count = count.saturating_add(1);
         }
-        Ok(())
+        Ok(first == 0 && count > 0)
     }
 
-    // Whether the bytes of a text have bit 7 set.
-    fn is_high(&self, text: &Marked<'_>) -> bool {
-        match self.dialect {
-            Dialect::Sc => text.minus,
-            Dialect::Edasm => self.high,
-            _ => text.mark < b'\'',
+    /// Appends lines with delimited texts and bytes in hexadecimal digits; returns whether the operand is such.
+    pub(crate) fn put_texts(&mut self, operand: &[u8]) -> Result<bool, AllocError> {
+        let (_, is_closed) = texts_len(operand);
+        if !is_closed || operand.is_empty() {
+            return Ok(false);
         }
-    }
-
-    // Appends a line with a text whose bytes have bit 7 set or clear.
-    fn put_characters(&mut self, high: bool, text: &[u8]) -> Result<(), AllocError> {
-        self.put_front(b"ASC ")?;
-        self.put_quoted(if high { b'"' } else { b'\'' }, text)
-    }
-
-    /// Appends a line with a delimited text, and one with the bytes after it.
-    pub(crate) fn put_text(&mut self, operand: &[u8]) -> Result<(), AllocError> {
-        let found = text_in(operand);
-        self.put_characters(self.is_high(&found), found.text)?;
-        let following = found
-            .following
-            .strip_prefix(b",")
-            .unwrap_or(found.following);
-        if following.is_empty() {
-            return Ok(());
+        let (minus, mut rest) = match operand {
+            [b'-', rest @ ..] if self.dialect == Dialect::Sc => (true, rest),
+            _ => (false, operand),
+        };
+        for _ in 0..operand.len() {
+            if rest.is_empty() {
+                break;
+            }
+            let digits = front_len(rest, |c| c.is_ascii_hexdigit() || c == b',' || c == b'$');
+            if digits > 0 {
+                let (bytes, following) = cut_at(rest, digits);
+                if bytes != b",".as_slice() && !self.put_hex(bytes)? {
+                    return Ok(false);
+                }
+                rest = following;
+                continue;
+            }
+            let Some(found) = text_in(rest) else {
+                return Ok(false);
+            };
+            self.put_characters(self.is_high(minus, found.mark), found.text)?;
+            rest = found.following;
         }
-        self.put_hex(following)
+        Ok(true)
     }
 
-    /// Appends lines with a text whose last byte has bit 7 inverted.
-    pub(crate) fn put_ended(&mut self, operand: &[u8]) -> Result<(), AllocError> {
-        let found = text_in(operand);
-        let high = self.is_high(&found);
-        let (front, last) = found.text.split_at(found.text.len().saturating_sub(1));
-        if !front.is_empty() {
-            self.put_characters(high, front)?;
+    // The only text of an operand, and whether its bytes have bit 7 set.
+    fn only_text<'t>(&self, operand: &'t [u8]) -> Option<(&'t [u8], bool)> {
+        let rest = operand.strip_prefix(b"-").unwrap_or(operand);
+        let found = text_in(rest)?;
+        if !found.following.is_empty() || found.text.is_empty() {
+            return None;
         }
-        self.put_characters(!high, last)
+        Some((
+            found.text,
+            self.is_high(rest.len() < operand.len(), found.mark),
+        ))
     }
 
-    /// Appends a line with the length of a text, and the text.
-    pub(crate) fn put_counted(&mut self, operand: &[u8]) -> Result<(), AllocError> {
+    /// Appends lines with a text whose last byte has bit 7 inverted; returns whether the operand is a text.
+    pub(crate) fn put_ended(&mut self, operand: &[u8]) -> Result<bool, AllocError> {
+        let Some((text, high)) = self.only_text(operand) else {
+            return Ok(false);
+        };
+        let (front, last) = cut_at(text, text.len().saturating_sub(1));
+        self.put_characters(high, front)?;
+        self.put_characters(!high, last)?;
+        Ok(true)
+    }
+
+    /// Appends a line with the length of a text, and the text; returns whether the operand is a text.
+    pub(crate) fn put_counted(&mut self, operand: &[u8]) -> Result<bool, AllocError> {
+        let Some((text, high)) = self.only_text(operand) else {
+            return Ok(false);
+        };
+        let count = decimal(text.len() as u64);
         self.put_front(b"DFB ")?;
-        let count = decimal(text_in(operand).text.len() as u64);
         self.put(&[count.as_slice()])?;
-        self.put_text(operand)
+        self.put_characters(high, text)?;
+        Ok(text.len() < 256)
     }
+
+    /// Appends lines with a text from its end to its beginning; returns whether the operand is a text.
+    pub(crate) fn put_reversed(&mut self, operand: &[u8]) -> Result<bool, AllocError> {
+        let Some((text, high)) = self.only_text(operand) else {
+            return Ok(false);
+        };
+        let mut turned = Vec::new(self.alloc);
+        let mut rest = text;
+        for _ in 0..text.len() {
+            let [others @ .., c] = rest else {
+                break;
+            };
+            turned.push(*c)?;
+            rest = others;
+        }
+        self.put_characters(high, turned.as_slice())?;
+        Ok(true)
+    }
+
+    /// Appends a line with a text in inverse or flashing; returns whether all its characters can be so.
+    pub(crate) fn put_shown(
+        &mut self,
+        operation: &'static [u8],
+        operand: &[u8],
+    ) -> Result<bool, AllocError> {
+        let Some((text, _)) = self.only_text(operand) else {
+            return Ok(false);
+        };
+        if front_len(text, |c| c >= b' ' && c <= b'_') < text.len() {
+            return Ok(false);
+        }
+        let quote = if text.contains(&b'"') { b'\'' } else { b'"' };
+        self.put_front(operation)?;
+        self.text.push(b' ')?;
+        self.text.push(quote)?;
+        self.put_text(text)?;
+        self.text.push(quote)?;
+        Ok(!text.contains(&quote))
+    }
+
+    // Appends a comma, or begins a line with this operation.
+    fn put_before(&mut self, last: &[u8], operation: &'static [u8]) -> Result<(), AllocError> {
+        if last == operation {
+            return self.put(&[b","]);
+        }
+        self.put_front(operation)
+    }
+
+    // The value of an item of a list, and the operation for it.
+    fn item_value(
+        &self,
+        list: List,
+        item: &[u8],
+    ) -> Result<Option<(Value<A>, &'static [u8])>, AllocError> {
+        let alloc = self.alloc;
+        let (text, operator) = match (list, item) {
+            (List::High, _) => (item, Some(Operator::High)),
+            (List::Low, _) => (item, Some(Operator::Low)),
+            (List::Marked, [b'/', rest @ ..]) => (rest, Some(Operator::High)),
+            (List::Marked, [b'#', rest @ ..]) => {
+                let found = self.byte_in(rest, true)?;
+                return Ok(with_operation(found, b"DFB "));
+            }
+            (List::Bytes, [b'#', rest @ ..]) if self.dialect.is_old() => (rest, None),
+            _ => (item, None),
+        };
+        let is_word = matches!(list, List::Words | List::Marked) && operator.is_none();
+        if is_word {
+            let found = value_in(&self.names, text, Width::Word)?;
+            return Ok(with_operation(found, b"DW "));
+        }
+        let found = match operator {
+            None => self.byte_in(text, self.dialect == Dialect::Merlin)?,
+            Some(operator) => match value_in(&self.names, text, Width::Word)? {
+                Some(value) if is_small(list, &value, text) => Some(value),
+                Some(value) => Some(value.changed(alloc, operator)?),
+                None => None,
+            },
+        };
+        Ok(with_operation(found, b"DFB "))
+    }
+
+    // Appends an item as two bytes, the high one first; returns whether it can be read.
+    fn put_double(&mut self, item: &[u8]) -> Result<bool, AllocError> {
+        let Some(value) = value_in(&self.names, item, Width::Word)? else {
+            return Ok(false);
+        };
+        let high = value.changed(self.alloc, Operator::High)?;
+        let low = value.changed(self.alloc, Operator::Low)?;
+        self.put_text(high.text.as_slice())?;
+        self.text.push(b',')?;
+        self.put_text(low.text.as_slice())?;
+        Ok(true)
+    }
+
+    // Appends an item of a list after items with this operation; returns its operation, or nothing if it cannot be read.
+    fn put_item(
+        &mut self,
+        list: List,
+        item: &[u8],
+        last: &[u8],
+    ) -> Result<&'static [u8], AllocError> {
+        if list == List::Bytes && !self.dialect.is_old() {
+            if let Some(text) = whole_text(item) {
+                self.put_characters(self.raised, text)?;
+                return Ok(b"ASC ");
+            }
+        }
+        if list == List::Doubles {
+            self.put_before(last, b"DFB ")?;
+            let is_read = self.put_double(item)?;
+            return Ok(if is_read { b"DFB " } else { b"" });
+        }
+        let Some((value, operation)) = self.item_value(list, item)? else {
+            return Ok(b"");
+        };
+        self.put_before(last, operation)?;
+        if operation == b"DFB ".as_slice() {
+            self.put_byte(&value)?;
+        } else {
+            self.put_text(value.text.as_slice())?;
+        }
+        Ok(operation)
+    }
+
+    /// Appends the lines for the items of a list; returns whether all of them can be read.
+    pub(crate) fn put_list(&mut self, list: List, operand: &[u8]) -> Result<bool, AllocError> {
+        let mut last: &'static [u8] = b"";
+        let mut rest = Some(operand);
+        let mut line = self.text.len();
+        for _ in 0..operand.len().saturating_add(1) {
+            let Some(text) = rest else {
+                break;
+            };
+            let (item, following) = split_item(text, b',', quotes_of(self.dialect));
+            if self.text.len().saturating_sub(line) >= LONG_LINE {
+                last = b"";
+            }
+            if last.is_empty() {
+                line = self.text.len();
+            }
+            last = self.put_item(list, item, last)?;
+            if last.is_empty() {
+                return Ok(false);
+            }
+            rest = following;
+        }
+        Ok(!operand.is_empty())
+    }
+
+    /// Appends a line with a 0.
+    pub(crate) fn put_zero(&mut self) -> Result<(), AllocError> {
+        self.put(&[b"\n", BLANKS, b"DFB 0"])
+    }
+}
+
+// A value together with the operation for it.
+fn with_operation<A: Allocator>(
+    found: Option<Value<A>>,
+    operation: &'static [u8],
+) -> Option<(Value<A>, &'static [u8])> {
+    match found {
+        Some(value) => Some((value, operation)),
+        None => None,
+    }
+}
+
+// Whether the low byte of an item is the item itself, by its digits.
+fn is_small<A: Allocator>(list: List, value: &Value<A>, text: &[u8]) -> bool {
+    let begins_with_digit = match text.first() {
+        Some(c) => !(c.is_ascii_alphabetic() || matches!(*c, b'_' | b'*' | b'.')),
+        None => false,
+    };
+    list == List::Low && begins_with_digit || value.level == PART
 }

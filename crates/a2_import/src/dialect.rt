@@ -1,4 +1,4 @@
-//! The dialects of old source texts.
+//! The dialects of other assemblers.
 
 /// An assembler whose sources can be imported.
 #[derive(Clone, Copy, Debug, PartialEq, Eq)]
@@ -6,10 +6,27 @@ pub enum Dialect {
     /// The S-C Assembler.
     Sc,
     Lisa,
+    /// Merlin 8, 16 and 32.
     Merlin,
     /// Apple's EDASM.
     Edasm,
     Ca65,
+    /// 64tass.
+    Tass,
+    Acme,
+    Dasm,
+    /// The assembler of easy6502, in a browser.
+    Easy,
+}
+
+impl Dialect {
+    /// Returns whether an operand ends before a blank, and expressions are read from left to right.
+    pub(crate) fn is_old(self) -> bool {
+        matches!(
+            self,
+            Dialect::Sc | Dialect::Lisa | Dialect::Merlin | Dialect::Edasm
+        )
+    }
 }
 
 /// The kind of an old text.

@@ -1,24 +1,36 @@
-//! Importing a source of an old assembler.
+//! Importing a source of another assembler.
 
-ghost use Rattle.std.specs.Prelude.{IfOk};
+ghost use Rattle.std.specs.Prelude.{◌≡◌, ◌↔◌, IsTrue, IfOk};
 ghost use Rattle.a2_import.specs.Imported.{IsSomeSource};
+ghost use Rattle.a2_import.specs.Marks.{is_marked};
 
+use crate::comparison::{Difference, differences_of};
+use crate::cutting::pieces_of;
 use crate::dialect::Dialect;
 use crate::fault::ImportFault;
-use crate::print::{after_line_number, after_printed, column_of, is_bytes};
+use crate::outcome::{is_marked, is_source};
+use crate::parts::parts_of;
+use crate::pieces::{BLANKS, Piece};
 use crate::reading::Reading;
-use a2_syntax::{Fault, parse};
+use crate::rules::Action;
+use a2_syntax::Fault;
 use a2_text::cut;
 use std::alloc::{AllocError, Allocator, Global};
 
-/// How an imported line differs from the old one.
+// The most bytes of a text.
+const MOST_BYTES: usize = 65536;
+
+// The most lines that are read, counted each time they are read.
+const MOST_STEPS: u32 = 200_000;
+
+/// What is to be known of an imported line.
 #[derive(Clone, Copy, Debug, PartialEq, Eq)]
 pub enum NoteKind {
-    /// `<NAME+1` is now the low byte of the sum; it was the low byte of NAME, plus 1.
-    Differs,
+    /// The line includes another file, which is not converted with it.
+    File,
     /// The line has no meaning in this language and was kept as a comment.
     Nothing,
-    /// The line is unknown or cannot be expressed in this language, and was kept as a comment.
+    /// The line cannot be converted and was kept after a mark that no assembler accepts.
     Unknown,
 }
 
@@ -33,87 +45,93 @@ pub struct Note {
 /// The result of an import.
 pub struct Imported<A: Allocator = Global> {
     pub text: Vec<u8, A>,
-    /// The notes, in the order of the lines, at most one for each line.
+    /// The notes, in the order of the lines.
     pub notes: Vec<Note, A>,
+    /// Whether the text is a source of the plain language.
+    pub is_plain: bool,
+    /// Whether a line of the text is after a mark because it cannot be converted.
+    pub is_marked: bool,
+    /// How many lines are.
+    pub marks: usize,
+    /// The lines of a printed listing whose bytes are not those of the text.
+    pub differences: Vec<Difference, A>,
 }
 
 // Not derived, only for the prover: it treats this as one call, and a derived `drop` field by field.
 impl<A: Allocator> Drop for Imported<A> {
     fn drop(self) {
-        let Imported { text: _, notes: _ } = self;
-    }
-}
-
-// The source in a line. In a printed text it begins in this column. Returns `None` if nothing of the line is source.
-fn source_in(dialect: Dialect, column: Option<usize>, line: &[u8]) -> Option<&[u8]> {
-    match column {
-        Some(column) => {
-            after_printed(line)?;
-            let (_, source) = line.split_at(column.min(line.len()));
-            Some(source)
-        }
-        None if dialect == Dialect::Sc => Some(after_line_number(line).unwrap_or(line)),
-        None => Some(line),
+        let Imported {
+            text: _,
+            notes: _,
+            is_plain: _,
+            is_marked: _,
+            marks: _,
+            differences: _,
+        } = self;
     }
 }
 
 impl<'a, A: Allocator + Copy> Reading<'a, A> {
-    /// Adds a note about a line.
-    pub(crate) fn note(&mut self, line: usize, kind: NoteKind) -> Result<(), AllocError> {
-        self.notes.push(Note { line, kind })?;
-        Ok(())
+    // Whether a line sets the address.
+    fn sets_address(&self) -> bool {
+        for piece in self.lines.iter() {
+            if matches!(
+                parts_of(self.dialect, piece.text).action,
+                Some(Action::Origin)
+            ) {
+                return true;
+            }
+        }
+        false
     }
 
-    /// Appends a line as a comment.
-    pub(crate) fn put_as_comment(&mut self, line: &[u8]) -> Result<(), AllocError> {
-        self.put(&[b"; ", line.trim_ascii(), b"\n"])
-    }
-
-    // Imports a line of a text that was not printed by an assembler.
-    fn put_source(&mut self, number: usize, line: &'a [u8]) -> Result<(), AllocError> {
-        match line.first() {
-            Some(b'*' | b';') => self.put(&[line, b"\n"]),
-            _ if line.trim_ascii().is_empty() => self.put(&[b"\n"]),
-            _ => self.put_statement(number, line),
+    // Imports all lines.
+    fn run(&mut self) -> Result<(), AllocError> {
+        self.scan()?;
+        if self.dialect == Dialect::Easy && !self.sets_address() {
+            self.put(&[BLANKS, b"ORG $0600\n"])?;
         }
-    }
-
-    // Imports a line; in a printed text, its source begins in this column.
-    fn put_line(
-        &mut self,
-        number: usize,
-        column: Option<usize>,
-        line: &'a [u8],
-    ) -> Result<(), AllocError> {
-        if let Some(source) = source_in(self.dialect, column, line) {
-            return self.put_source(number, source);
+        for _ in 0..MOST_STEPS {
+            let Some(piece) = self.lines.get(self.next).copied() else {
+                break;
+            };
+            self.next = self.next.saturating_add(1);
+            self.read(piece)?;
         }
-        if is_bytes(line) || line.trim_ascii().is_empty() {
-            return Ok(());
-        }
-        self.note(number, NoteKind::Unknown)?;
-        self.put_as_comment(line)
+        self.finish()
     }
 }
 
 // The result of importing these lines.
-fn imported_from<A: Allocator + Copy>(
+fn imported_from<'a, A: Allocator + Copy>(
     alloc: A,
     dialect: Dialect,
-    lines: &[&[u8]],
-) -> Result<Imported<A>, AllocError> {
-    let column = column_of(lines);
-    let mut reading = Reading::new(alloc, dialect);
-    for (i, line) in lines.iter().enumerate() {
-        reading.put_line(i.saturating_add(1), column, *line)?;
-    }
-    Ok(reading.into_made())
+    lines: &[&'a [u8]],
+) -> Result<Imported<A>, AllocError>
+    ensures plain { IfOk result (λ made. IsTrue made.is_plain ↔ IsSomeSource made.text.items) }
+    ensures marked { IfOk result (λ made. made.is_marked ≡ is_marked made.text.items) }
+{
+    let (pieces, others) = pieces_of(alloc, dialect, lines)?;
+    let mut reading = Reading::new(alloc, dialect, pieces)?;
+    reading.run()?;
+    reading.put_others(others.as_slice())?;
+    let differences = differences_of(alloc, lines, reading.text.as_slice())?;
+    let is_plain = is_source(alloc, reading.text.as_slice())?;
+    let is_marked = is_marked(alloc, reading.text.as_slice())?;
+    Ok(Imported {
+        text: reading.text,
+        notes: reading.notes,
+        is_plain,
+        is_marked,
+        marks: reading.marks,
+        differences,
+    })
 }
 
-/// Returns a source of an old assembler as a source of this language, with a note for each line that changed its meaning, has
-/// no meaning here, or could not be imported. Lines of the last two kinds are kept as comments. Line numbers are removed, and
-/// so is the text that an assembler printed before its lines. A local label becomes a name of its own, which contains the label
-/// before it. Every line that is written is in the grammar; names and values are not checked.
+/// Returns a source of another assembler as a source of this language, with a note for each line that has no meaning here, that
+/// includes a file, or that cannot be imported. The text is plain if nothing in it needs the larger language. A line that cannot be
+/// imported stays after `?? `, which no command accepts, together with the block that it begins. Line numbers are removed, and so is
+/// what an assembler printed before its lines; if there are bytes in it, they are compared with those of the text.
 ///
 /// Fails with `Refused` if the result would be too large, or if memory runs out.
 pub fn import_source<A: Allocator + Copy>(
@@ -121,13 +139,13 @@ pub fn import_source<A: Allocator + Copy>(
     dialect: Dialect,
     text: &[u8],
 ) -> Result<Imported<A>, ImportFault>
-    ensures { IfOk result (λ made. IsSomeSource made.text.items) }
+    ensures plain { IfOk result (λ made. IsTrue made.is_plain ↔ IsSomeSource made.text.items) }
+    ensures marked { IfOk result (λ made. made.is_marked ≡ is_marked made.text.items) }
 {
     let lines = cut(alloc, text)?;
     let made = imported_from(alloc, dialect, lines.as_slice())?;
-    match parse(alloc, made.text.as_slice()) {
-        Ok(_) => Ok(made),
-        Err(Fault::Memory) => Err(ImportFault::Memory),
-        Err(fault) => Err(ImportFault::Refused(fault)),
+    if made.text.len() > MOST_BYTES {
+        return Err(ImportFault::Refused(Fault::TooLarge(0)));
     }
+    Ok(made)
 }

@@ -1,16 +1,23 @@
-//! Imports old texts, sources of five old assemblers and listings of the Monitor, as sources of this language.
+//! Imports sources of other assemblers, and listings of the Monitor, as sources of this language.
 //!
 //! CALLING.md shows how to call it.
 #![tactic(auto)]
 
+mod blocks;
+mod comparison;
+mod cutting;
 mod data;
 mod dialect;
+mod expression;
 mod fault;
 mod import;
 mod kind;
 mod listing;
+mod names;
 mod object;
 mod operand;
+mod operator;
+mod outcome;
 mod parts;
 mod pieces;
 mod print;
@@ -18,9 +25,12 @@ mod reading;
 mod row;
 mod rules;
 mod same;
+mod scan;
 mod statement;
 mod token;
+mod value;
 
+pub use comparison::Difference;
 pub use dialect::{Dialect, Old};
 pub use fault::{ImportFault, ListingFault};
 pub use import::{Imported, Note, NoteKind, import_source};

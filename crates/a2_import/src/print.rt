@@ -59,6 +59,47 @@ pub(crate) fn after_printed_bytes(line: &[u8]) -> Option<&[u8]> {
     if is_printed { Some(rest) } else { None }
 }
 
+/// The address and the bytes that an assembler printed before a line.
+#[derive(Clone, Copy)]
+pub(crate) struct Printed {
+    pub address: u16,
+    /// How many bytes there are, 1 to 3.
+    pub count: usize,
+    pub bytes: [u8; 3],
+}
+
+/// Returns the address and the bytes at the beginning of a line, if there are bytes.
+pub(crate) fn printed_in(line: &[u8]) -> Option<Printed> {
+    let (word, following) = first_word(line)?;
+    address(word)?;
+    let (digits, _) = word.split_at(word.len().min(4));
+    let start = number_in(16, 4, digits)?;
+    let mut bytes: [u8; 3] = [0; 3];
+    let mut count: usize = 0;
+    let mut next = after_blanks(following);
+    for i in 0..BYTES {
+        let Some(rest) = after_printed_byte(next) else {
+            break;
+        };
+        let (digits, _) = next.split_at(next.len().min(2));
+        let number = number_in(16, 2, digits)?;
+        bytes[i] = (number & 255) as u8;
+        count = i.saturating_add(1);
+        next = match rest {
+            [_, more @ ..] => more,
+            [] => rest,
+        };
+    }
+    if count == 0 {
+        return None;
+    }
+    Some(Printed {
+        address: start,
+        count,
+        bytes,
+    })
+}
+
 /// Returns the text after the line number at the beginning of a line and one blank.
 pub(crate) fn after_line_number(line: &[u8]) -> Option<&[u8]> {
     let here = after_blanks(line);

@@ -5,12 +5,13 @@ ghost use Rattle.a2lab_sources.specs.Imports.{ShowsRows};
 
 use a2_hex::HexFault;
 use a2_import::{
-    Dialect, ImportFault, ListingFault, NoteKind, Old, guess, import_listing, import_source,
+    Dialect, Difference, ImportFault, ListingFault, Note, NoteKind, Old, guess, import_listing,
+    import_source,
 };
 use a2_run::RunFault;
 use a2_stream::{Output, WriteFault, put, put_all};
 use a2_syntax::Fault;
-use a2_text::{cut, decimal};
+use a2_text::{cut, decimal, hex_pair, hex_word};
 use a2lab_commands::options::DIALECT;
 use a2lab_commands::{CommandArgs, Host, Refusal};
 use std::alloc::Global;
@@ -24,6 +25,10 @@ fn from_named(name: &str) -> Option<Old> {
         "merlin" => Some(Old::Source(Dialect::Merlin)),
         "edasm" => Some(Old::Source(Dialect::Edasm)),
         "ca65" => Some(Old::Source(Dialect::Ca65)),
+        "64tass" => Some(Old::Source(Dialect::Tass)),
+        "acme" => Some(Old::Source(Dialect::Acme)),
+        "dasm" => Some(Old::Source(Dialect::Dasm)),
+        "easy6502" => Some(Old::Source(Dialect::Easy)),
         _ => None,
     }
 }
@@ -46,29 +51,76 @@ fn report_of_line<E: Output>(
     let _ = put_all(&[b" ", kind, b": ", what, shown, b"\n"], complaints);
 }
 
-// Returns the sentence of a note.
-fn note_text(kind: NoteKind) -> &'static [u8] {
+// Returns what kind of report a note is, and its sentence.
+fn note_text(kind: NoteKind) -> (&'static [u8], &'static [u8]) {
     match kind {
-        NoteKind::Differs =>
-            b"here this is a byte of the sum; there it was the sum with the byte: ",
-        NoteKind::Nothing => b"has no meaning here, so it became a comment: ",
-        NoteKind::Unknown => b"cannot be converted, so it became a comment: ",
+        NoteKind::File => (b"note", b"this file needs to be converted too: "),
+        NoteKind::Nothing => (b"note", b"has no meaning here, so it became a comment: "),
+        NoteKind::Unknown => (b"error", b"cannot be converted, so ?? is before it: "),
     }
 }
 
 // Reports a note about a line of the text `name`, which has these lines.
-fn report_note<E: Output>(
-    name: &str,
-    line: usize,
-    note: &[u8],
-    lines: &[&[u8]],
-    complaints: &mut E,
-) {
-    let shown: &[u8] = match line.checked_sub(1) {
+fn report_note<E: Output>(name: &str, note: &Note, lines: &[&[u8]], complaints: &mut E) {
+    let shown: &[u8] = match note.line.checked_sub(1) {
         Some(index) if index < lines.len() => lines[index].trim_ascii(),
         _ => b"",
     };
-    report_of_line(name, line, b"note", note, shown, complaints)
+    let (kind, text) = note_text(note.kind);
+    report_of_line(name, note.line, kind, text, shown, complaints)
+}
+
+// Writes bytes in hexadecimal digits, with a blank before each; `--` where there is none.
+fn put_bytes<E: Output>(bytes: &[Option<u8>], complaints: &mut E) {
+    for byte in bytes {
+        // If this fails, there is no place left to report it.
+        let _ = match byte {
+            Some(byte) => put_all(&[b" ", &hex_pair(*byte)], complaints),
+            None => put(b" --", complaints),
+        };
+    }
+}
+
+// Reports a line of a listing beside which other bytes are printed than it gives.
+fn report_difference<E: Output>(name: &str, found: &Difference, complaints: &mut E) {
+    let number = decimal(found.line as u64);
+    let [a, b, c] = found.printed;
+    let printed = [Some(a), Some(b), Some(c)];
+    let count = found.count.min(3);
+    let _ = put_all(
+        &[
+            name.as_bytes(),
+            b":",
+            number.as_slice(),
+            b": warning: the listing has",
+        ],
+        complaints,
+    );
+    put_bytes(&printed[..count], complaints);
+    let _ = put_all(
+        &[
+            b" at $",
+            &hex_word(found.address),
+            b", and the source gives",
+        ],
+        complaints,
+    );
+    put_bytes(&found.made[..count], complaints);
+    let _ = put(b"\n", complaints);
+}
+
+// Reports how many lines cannot be converted.
+fn report_marks<E: Output>(name: &str, marks: usize, complaints: &mut E) {
+    let number = decimal(marks as u64);
+    let what: &[u8] = if marks == 1 {
+        b" line could not be converted: ?? is before it, and no command accepts it\n"
+    } else {
+        b" lines could not be converted: ?? is before each, and no command accepts them\n"
+    };
+    let _ = put_all(
+        &[name.as_bytes(), b": ", number.as_slice(), what],
+        complaints,
+    );
 }
 
 // Returns the line of a listing that cannot be converted, or 0 for all of it, and why.
@@ -159,8 +211,8 @@ fn import_rows<'a, W: Output, E: Output>(
     }
 }
 
-// Writes the source of a text for another assembler, with a note for each line that means something else now or cannot be converted.
-// Returns the exit status.
+// Writes the source of a text for another assembler, with a note for each line that means nothing here or cannot be converted. Returns the
+// exit status: 1 if there are lines that cannot be converted.
 fn import_lines<'a, W: Output, E: Output>(
     alloc: Global,
     name: &str,
@@ -183,14 +235,20 @@ fn import_lines<'a, W: Output, E: Output>(
     put(made.text.as_slice(), output)?;
     let lines = cut(alloc, text)?;
     for note in &made.notes {
-        let text = note_text(note.kind);
-        report_note(name, note.line, text, lines.as_slice(), complaints);
+        report_note(name, note, lines.as_slice(), complaints);
+    }
+    for found in &made.differences {
+        report_difference(name, found, complaints);
+    }
+    if made.is_marked {
+        report_marks(name, made.marks, complaints);
+        return Ok(1);
     }
     Ok(0)
 }
 
 /// Converts a text, the contents of the file `file` or of standard input. `--from` may be before the file or after it. Reports each line that
-/// means something else now or cannot be converted, or why nothing can be, and returns the exit status.
+/// means nothing here or cannot be converted, or why nothing can be, and returns the exit status.
 #[inline(never)]
 pub fn import_text<'a, S, D, C, R, W: Output, E: Output>(
     given: &CommandArgs<'_, 'a>,

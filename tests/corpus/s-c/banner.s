@@ -1,0 +1,68 @@
+1000 * BANNER: PRINTS THREE LINES IN THE MIDDLE OF THE SCREEN
+1010 HOME     .EQ $FC58
+1020 COUT     .EQ $FDED
+1030 CROUT    .EQ $FD8E
+1040 VTAB     .EQ $FC22
+1050 CH       .EQ $24
+1060 CV       .EQ $25
+1070 PTR      .EQ $06
+1080 COUNT    .EQ $08
+1090 WIDTH    .EQ 40
+1100 BORDER   .EQ 1
+1110          .OR $0800
+1120          .MA PRINT
+1130          LDA #]1
+1140          STA PTR
+1150          LDA /]1
+1160          STA PTR+1
+1170          JSR SHOW
+1180          .EM
+1190 START    JSR HOME
+1200          LDA #10
+1210          STA CV
+1220          JSR VTAB
+1230          .DO BORDER
+1240          JSR LINE
+1250          .FIN
+1260          >PRINT LINE1
+1270          >PRINT LINE2
+1280          >PRINT LINE3
+1290          .DO BORDER
+1300          JSR LINE
+1310          .FIN
+1320          RTS
+1330 * SHOW CENTRES THE TEXT AT PTR, WHICH ENDS WITH 0
+1340 SHOW     LDY #0                 FIND ITS LENGTH
+1350 .1       LDA (PTR),Y
+1360          BEQ .2
+1370          INY
+1380          BNE .1
+1390 .2       STY COUNT
+1400          LDA #WIDTH
+1410          SEC
+1420          SBC COUNT
+1430          LSR
+1440          STA CH
+1450          LDY #0
+1460 .3       LDA (PTR),Y
+1470          BEQ .4
+1480          JSR COUT
+1490          INY
+1500          BNE .3
+1510 .4       JMP CROUT
+1520 * LINE DRAWS A LINE OF STARS
+1530 LINE     LDX #WIDTH
+1540          LDA #0
+1550          STA CH
+1560          LDA #"*
+1570 .1       JSR COUT
+1580          DEX
+1590          BNE .1
+1600          RTS
+1610 LINE1    .AS -"GREETINGS FROM 1983"
+1620          .DA #0
+1630 LINE2    .AS -"THE DISK IS FULL OF GAMES"
+1640          .DA #0
+1650 LINE3    .AS -"PRESS ANY KEY"
+1660          .DA #0
+1670          .EN

@@ -1,0 +1,64 @@
+1000 * SCROLL: MOVES A TEXT THROUGH A ROW OF THE SCREEN
+1010 HOME     .EQ $FC58
+1020 WAIT     .EQ $FCA8
+1030 KEY      .EQ $C000
+1040 STROBE   .EQ $C010
+1050 ROW      .EQ $0400+$28
+1060 FIRST    .EQ ROW
+1070 LAST     .EQ ROW+39
+1080 SPEED    .EQ 60
+1090 AT       .EQ $06
+1100          .OR $6000
+1110          .MA DELAY
+1120          LDA #]1
+1130          JSR WAIT
+1140          .EM
+1150          .MA MOVE
+1160          LDA ]1
+1170          STA ]2
+1180          .EM
+1190 START    JSR HOME
+1200          LDA #0
+1210          STA AT
+1220 LOOP     JSR SHIFT
+1230          LDX AT
+1240          LDA MESSAGE,X
+1250          BNE .1
+1260          LDX #0
+1270          STX AT
+1280          LDA MESSAGE
+1290 .1       STA LAST
+1300          INC AT
+1310          >DELAY SPEED
+1320          LDA KEY
+1330          BPL LOOP
+1340          STA STROBE
+1350          RTS
+1360 * SHIFT MOVES THE ROW ONE PLACE TO THE LEFT
+1370 SHIFT    LDX #0
+1380 .1       LDA FIRST+1,X
+1390          STA FIRST,X
+1400          INX
+1410          CPX #39
+1420          BNE .1
+1430          RTS
+1440 * SWAP EXCHANGES THE ENDS OF THE ROW
+1450 SWAP     >MOVE FIRST,AT+1
+1460          >MOVE LAST,FIRST
+1470          >MOVE AT+1,LAST
+1480          >DELAY SPEED*2
+1490          RTS
+1500 PAUSE
+1510          NOP
+1520          NOP
+1530          NOP
+1540          NOP
+1550          NOP
+1560          RTS
+1570 MESSAGE  .AS -/THIS TEXT MOVES FROM RIGHT TO LEFT, /
+1580          .AS -/UNTIL YOU PRESS A KEY ... /
+1590          .DA #0
+1600 ROWS     .DA $0400,$0480,$0500,$0580
+1610          .DA $0600,$0680,$0700,$0780
+1620          .DA $0428,$04A8,$0528,$05A8
+1630          .EN

@@ -1,0 +1,54 @@
+1000 * SIEVE: PRIME NUMBERS BELOW 256, ONE FLAG A BYTE
+1010 COUT     .EQ $FDED
+1020 CROUT    .EQ $FD8E
+1030 PRBYTE   .EQ $FDDA
+1040 FLAGS    .EQ $1000
+1050 FACTOR   .EQ $08
+1060 INDEX    .EQ $09
+1070 LIMIT    .EQ 16
+1080          .OR $0300
+1090 SIEVE    LDX #0
+1100          LDA #1
+1110 .1       STA FLAGS,X
+1120          INX
+1130          BNE .1
+1140          LDA #2
+1150          STA FACTOR
+1160 NEXTF    LDX FACTOR
+1170          LDA FLAGS,X
+1180          BEQ .1
+1190          TXA
+1200          ASL
+1210          BCS .1
+1220 .2       TAX
+1230          LDA #0
+1240          STA FLAGS,X
+1250          TXA
+1260          CLC
+1270          ADC FACTOR
+1280          BCC .2
+1290 .1       INC FACTOR
+1300          LDA FACTOR
+1310          CMP #LIMIT
+1320          BCC NEXTF
+1330 PRINT    LDA #2
+1340          STA INDEX
+1350 .1       LDX INDEX
+1360          LDA FLAGS,X
+1370          BEQ .2
+1380          TXA
+1390          JSR PRBYTE
+1400          LDA #" "
+1410          JSR COUT
+1420 .2       INC INDEX
+1430          BNE .1
+1440          JSR CROUT
+1450          RTS
+1460 NAME     .AS -"SIEVE"
+1470          .DA #$8D,#0
+1480 VERSION  .DA $0102,LIMIT*LIMIT
+1490 ENTRY    .DA SIEVE,NEXTF,PRINT
+1500 POWERS   .DA #1,#2,#4,#8
+1510          .DA #16,#32,#64,#128
+1520 MASKS    .DA #LIMIT-1,#LIMIT+LIMIT
+1530          .EN
