@@ -12,7 +12,6 @@ use std::alloc::{AllocError, Allocator};
 /// A source with errors.
 #[derive(Drop)]
 pub(crate) struct Checked<'a, A: Allocator> {
-    pub name: &'a str,
     pub source: &'a [u8],
     /// Its lines as written.
     pub texts: &'a [&'a [u8]],

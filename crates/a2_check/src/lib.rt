@@ -1,4 +1,3 @@
-//!
 //! Finds the errors of a source, or its warnings if it has none, and prints a message for each.
 //!
 //! CALLING.md shows how to call it.
@@ -7,6 +6,7 @@
 mod beside;
 mod checked;
 mod elsewhere;
+mod errors;
 mod finding;
 mod forms;
 mod laws;
@@ -25,7 +25,8 @@ mod values;
 mod verdict;
 mod warnings;
 
+pub use errors::{SourceError, errors_of};
 pub use laws::the_first_is_the_texts_refusal;
-pub use reports::{Format, ReportFault, put_refusals};
+pub use reports::{ErrorFile, Format, ReportFault, put_errors, put_refusals};
 pub use verdict::{Verdict, refusals_of, verdict_of};
-pub use warnings::{Warning, WarningKind, put_warnings, warnings_of};
+pub use warnings::{Warning, WarningKind, put_warnings, sentence_of, warnings_of};

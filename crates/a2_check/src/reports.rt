@@ -1,14 +1,9 @@
 //! Writes the messages for errors.
 
-use crate::beside::{with_others, without_unread};
-use crate::checked::{Checked, line_at};
-use crate::forms::put_forms;
-use crate::message::{FilledSentence, Message, shown};
+use crate::errors::{SourceError, errors_of, put_shown};
 use crate::objects::object_text;
-use crate::probe::with_values;
-use a2_asm::refused;
-use a2_stream::{Output, WriteFault, put};
-use a2_syntax::{Fault, Line, parse};
+use a2_stream::{Output, WriteFault, put, put_all};
+use a2_syntax::Fault;
 use a2_text::{cut, decimal};
 use std::alloc::{AllocError, Allocator};
 use thiserror::Error;
@@ -51,31 +46,22 @@ impl From<WriteFault> for ReportFault {
     }
 }
 
-// A source, its name, and the errors of it to write.
+/// A file that can have errors.
 #[derive(Clone, Copy)]
-struct Errors<'a> {
-    name: &'a str,
-    source: &'a [u8],
-    refusals: &'a [Fault],
-    format: Format,
+pub struct ErrorFile<'a> {
+    pub name: &'a str,
+    /// Its lines, as written.
+    pub lines: &'a [&'a [u8]],
 }
 
-// Returns the code of an error, as users see it.
-fn code(fault: Fault) -> &'static str {
-    match fault {
-        Fault::TooLarge(_) => "E1",
-        Fault::Syntax(_) => "E2",
-        Fault::TooManyNames(_) => "E3",
-        Fault::Duplicate(_) => "E4",
-        Fault::Unknown(_) => "E5",
-        Fault::Forward(_) => "E6",
-        Fault::NoMode(_) => "E7",
-        Fault::Range(_) => "E8",
-        Fault::Branch(_) => "E9",
-        Fault::Outside(_) => "E10",
-        Fault::Overlap(_) => "E11",
-        Fault::NoCode | Fault::Memory => "E12",
-    }
+/// An error to write.
+#[derive(Clone, Copy)]
+pub(crate) struct Report<'a, A: Allocator> {
+    /// The name of the file that it is in.
+    pub file: &'a str,
+    /// The line with the error, as written there.
+    pub written: &'a [u8],
+    pub error: &'a SourceError<A>,
 }
 
 // Writes a number in decimal.
@@ -91,107 +77,77 @@ fn put_times<W: Output>(byte: u8, count: usize, writer: &mut W) -> Result<(), Wr
     Ok(())
 }
 
-// Writes bytes as shown characters.
-fn put_shown<W: Output>(text: &[u8], writer: &mut W) -> Result<(), WriteFault> {
-    for c in text {
-        put(&[shown(*c)], writer)?;
-    }
-    Ok(())
-}
-
-// Writes a byte of a sentence, or the text that it is the placeholder for.
-fn put_marked<W: Output>(
-    c: u8,
-    filled: FilledSentence<'_>,
-    writer: &mut W,
-) -> Result<(), WriteFault> {
-    match c {
-        b'@' => put_shown(filled.first, writer),
-        b'~' => put_shown(filled.second, writer),
-        b'#' => put_number(usize::from(filled.number), writer),
-        _ => put_shown(&[c], writer),
-    }
-}
-
-/// Writes a sentence with its placeholders replaced.
-pub(crate) fn put_message<W: Output>(
-    filled: FilledSentence<'_>,
-    writer: &mut W,
-) -> Result<(), WriteFault> {
-    for c in filled.sentence {
-        put_marked(*c, filled, writer)?;
-    }
-    match filled.forms {
-        Some(mnemonic) => put_forms(mnemonic, writer),
-        None => Ok(()),
-    }
-}
-
-/// An error with all that its message needs.
-#[derive(Clone, Copy)]
-pub(crate) struct Report<'a> {
-    /// The name of the source.
-    pub name: &'a str,
-    /// The line with the error, as written.
-    pub text: &'a [u8],
-    /// The number of that line, or 0 if the error is not in a line.
-    pub line: u16,
-    pub code: &'static str,
-    pub message: Message<'a>,
-}
-
-impl<'a> Report<'a> {
-    /// Returns the column of the place, counted from 1, or 0 if the error is not in a line.
-    pub(crate) fn column(self) -> usize {
-        if self.line == 0 {
-            0
-        } else {
-            self.message.at.saturating_add(1)
-        }
-    }
-
-    /// Returns how many characters are marked, at least 1.
-    pub(crate) fn width(self) -> usize {
-        self.message.width.max(1)
-    }
-}
-
 // Returns the template of a report in a format of lines. A capital letter stands for a part, as `put_part` writes it; any other
 // byte stands for itself. A line that is too long is not shown.
-fn form_of(report: Report<'_>, format: Format) -> &'static [u8] {
+fn form_of<A: Allocator + Copy>(report: Report<'_, A>, format: Format) -> &'static [u8] {
     match format {
-        Format::Long if report.line == 0 => b"error[E]: T\n     = M\n",
-        Format::Long if report.text.len() > 255 => { b"error[E]: line L, column C: T\n     = M\n" }
-        Format::Long => b"error[E]: line L, column C: T\nIL | S\n     | PU M\n",
-        _ if report.line == 0 => b"N: error: E: T; M\n",
-        _ => b"N:L:C: error: E: T; M\n",
+        Format::Long if report.error.line == 0 => b"errorK: FT\n     = M\n",
+        Format::Long if report.written.len() > 255 => {
+            b"errorK: Fline L, column C: T\n     = M\n"
+        }
+        Format::Long => b"errorK: Fline L, column C: T\nIL | S\n     | PU M\n",
+        _ if report.error.line == 0 => b"N: error: ET; M\n",
+        _ => b"N:L:C: error: ET; M\n",
+    }
+}
+
+// Writes a text between two others, or nothing if it is empty.
+fn put_around<W: Output>(
+    front: &[u8],
+    text: &[u8],
+    back: &[u8],
+    writer: &mut W,
+) -> Result<(), WriteFault> {
+    if text.is_empty() {
+        Ok(())
+    } else {
+        put_all(&[front, text, back], writer)
+    }
+}
+
+// Returns the name of the file of a report, if it is not the source itself.
+fn other_file<'a, A: Allocator + Copy>(report: Report<'a, A>) -> &'a [u8] {
+    if report.error.file == 0 {
+        b""
+    } else {
+        report.file.as_bytes()
     }
 }
 
 // Writes one part of a report.
-fn put_part<W: Output>(part: u8, report: Report<'_>, writer: &mut W) -> Result<(), WriteFault> {
-    let Report { line, message, .. } = report;
+fn put_part<A: Allocator + Copy, W: Output>(
+    part: u8,
+    report: Report<'_, A>,
+    writer: &mut W,
+) -> Result<(), WriteFault> {
+    let Report {
+        file,
+        written,
+        error,
+    } = report;
     match part {
-        b'N' => put(report.name.as_bytes(), writer),
-        b'E' => put(report.code.as_bytes(), writer),
-        b'L' => put_number(usize::from(line), writer),
-        b'C' => put_number(report.column(), writer),
-        b'T' => put_message(message.problem(), writer),
-        b'M' => put_message(message.fix_sentence(), writer),
-        b'S' => put_shown(report.text, writer),
+        b'N' => put(file.as_bytes(), writer),
+        b'F' => put_around(b"", other_file(report), b": ", writer),
+        b'K' => put_around(b"[", error.code.as_bytes(), b"]", writer),
+        b'E' => put_around(b"", error.code.as_bytes(), b": ", writer),
+        b'L' => put_number(error.line, writer),
+        b'C' => put_number(error.column, writer),
+        b'T' => put(error.text.as_slice(), writer),
+        b'M' => put(error.fix.as_slice(), writer),
+        b'S' => put_shown(written, writer),
         b'I' => {
-            let digits = decimal(u64::from(line)).len();
+            let digits = decimal(error.line as u64).len();
             put_times(b' ', 4usize.saturating_sub(digits), writer)
         }
-        b'P' => put_times(b' ', message.at, writer),
-        b'U' => put_times(b'^', report.width(), writer),
+        b'P' => put_times(b' ', error.column.saturating_sub(1), writer),
+        b'U' => put_times(b'^', error.width, writer),
         _ => put(&[part], writer),
     }
 }
 
 // Writes a report by its template.
-fn put_report<W: Output>(
-    report: Report<'_>,
+fn put_report<A: Allocator + Copy, W: Output>(
+    report: Report<'_, A>,
     format: Format,
     writer: &mut W,
 ) -> Result<(), WriteFault> {
@@ -220,35 +176,23 @@ fn put_count<W: Output>(count: usize, writer: &mut W) -> Result<(), WriteFault> 
     )
 }
 
-// Returns an error of a source with all that its message needs.
-fn report_of<'a, A: Allocator + Copy>(
+// Writes an error in a list of errors in this format. `front` is before it in an array.
+fn put_error<A: Allocator + Copy, W: Output>(
     alloc: A,
-    checked: &'a Checked<'a, A>,
-    fault: Fault,
-) -> Result<Report<'a>, AllocError> {
-    let line = fault.line();
-    Ok(Report {
-        name: checked.name,
-        text: line_at(checked.texts, line),
-        line,
-        code: code(fault),
-        message: checked.message(alloc, fault)?,
-    })
-}
-
-// Writes an error as an object of a JSON array, after `front`.
-fn put_object<A: Allocator + Copy, W: Output>(
-    alloc: A,
-    report: Report<'_>,
+    report: Report<'_, A>,
+    format: Format,
     front: &[u8],
     writer: &mut W,
 ) -> Result<(), ReportFault> {
+    if format != Format::Json {
+        return Ok(put_report(report, format, writer)?);
+    }
     let text = object_text(alloc, report)?;
     put(front, writer)?;
     Ok(put(text.as_slice(), writer)?)
 }
 
-// Writes the end of the output, after `count` errors.
+// Writes the end of a list of `count` errors.
 fn put_end<W: Output>(format: Format, count: usize, writer: &mut W) -> Result<(), WriteFault> {
     match format {
         Format::Long => put_count(count, writer),
@@ -257,77 +201,62 @@ fn put_end<W: Output>(format: Format, count: usize, writer: &mut W) -> Result<()
     }
 }
 
-// Writes the message for each of these errors of a source.
-fn put_each<A: Allocator + Copy, W: Output>(
+// Returns an error with what is written of its file.
+fn report_of<'s, A: Allocator>(
+    files: &'s [ErrorFile<'s>],
+    error: &'s SourceError<A>,
+) -> Report<'s, A> {
+    match files.get(error.file) {
+        Some(file) => Report {
+            file: file.name,
+            written: file
+                .lines
+                .get(error.line.wrapping_sub(1))
+                .copied()
+                .unwrap_or(b""),
+            error,
+        },
+        None => Report {
+            file: "-",
+            written: b"",
+            error,
+        },
+    }
+}
+
+/// Writes these errors in this format: the place of each, what is wrong and how to fix it. `files` are the source, and after it the files
+/// that it includes; `file` of an error counts them from 0. In the long format an error names its file if that is not the source. Fails if a
+/// write fails, or if there is not enough memory. This project's profile.
+pub fn put_errors<A: Allocator + Copy, W: Output>(
     alloc: A,
-    checked: &Checked<'_, A>,
-    refusals: &[Fault],
+    errors: &[SourceError<A>],
+    files: &[ErrorFile<'_>],
     format: Format,
     writer: &mut W,
 ) -> Result<(), ReportFault> {
     let most = match format {
-        Format::Long => MOST_AT_LENGTH.min(refusals.len()),
-        Format::Short | Format::Json => refusals.len(),
+        Format::Long => MOST_AT_LENGTH.min(errors.len()),
+        Format::Short | Format::Json => errors.len(),
     };
     let mut front = b"[".as_slice();
-    for fault in &refusals[..most] {
-        let report = report_of(alloc, checked, *fault)?;
-        if format == Format::Json {
-            put_object(alloc, report, front, writer)?;
-        } else {
-            put_report(report, format, writer)?;
-        }
+    for error in &errors[..most] {
+        put_error(alloc, report_of(files, error), format, front, writer)?;
         front = b",\n ";
     }
-    Ok(put_end(format, refusals.len(), writer)?)
+    Ok(put_end(format, errors.len(), writer)?)
 }
 
-// Writes the messages for errors of a source with these lines. `read` is the text of `lines`: the source, or the source with empty lines
-// in place of those that are not in the grammar.
-fn put_of_lines<'a, A: Allocator + Copy, W: Output>(
+// Writes these errors of a source that includes no files, given its name and its lines.
+fn put_of_lines<'s, A: Allocator + Copy, W: Output>(
     alloc: A,
-    errors: Errors<'a>,
-    read: &[u8],
-    lines: &'a [Line<A>],
+    errors: &[SourceError<A>],
+    source: (&'s str, &'s [&'s [u8]]),
+    format: Format,
     writer: &mut W,
 ) -> Result<(), ReportFault> {
-    let texts = cut(alloc, errors.source)?;
-    let read = cut(alloc, read)?;
-    let values = with_values(alloc, read.as_slice(), lines, errors.refusals)?;
-    let checked = Checked {
-        name: errors.name,
-        source: errors.source,
-        texts: texts.as_slice(),
-        lines,
-        values: values.as_ref(),
-    };
-    put_each(alloc, &checked, errors.refusals, errors.format, writer)
-}
-
-// Writes the messages for the errors of a source that has lines that are not in the grammar, and for those of its other lines that no fix
-// of these can change. If the source is too large, there is no other error.
-fn put_of_text<A: Allocator + Copy, W: Output>(
-    alloc: A,
-    errors: Errors<'_>,
-    writer: &mut W,
-) -> Result<(), ReportFault> {
-    let texts = cut(alloc, errors.source)?;
-    let read = without_unread(alloc, texts.as_slice(), errors.refusals)?;
-    let read = read.as_slice();
-    match parse(alloc, read) {
-        Ok(parsed) => {
-            let all = with_others(alloc, texts.as_slice(), &parsed, errors.refusals)?;
-            let errors = Errors {
-                refusals: all.as_slice(),
-                ..errors
-            };
-            put_of_lines(alloc, errors, read, parsed.lines(), writer)
-        }
-        Err(fault) => {
-            refused(fault)?;
-            put_of_lines(alloc, errors, read, &[], writer)
-        }
-    }
+    let (name, lines) = source;
+    let file = ErrorFile { name, lines };
+    put_errors(alloc, errors, &[file], format, writer)
 }
 
 /// Writes the message for each of these errors of `source`, which is called `name`, in this format: its place, what is wrong
@@ -341,20 +270,13 @@ pub fn put_refusals<A: Allocator + Copy, W: Output>(
     format: Format,
     writer: &mut W,
 ) -> Result<(), ReportFault> {
-    if refusals.is_empty() {
-        return Ok(put_end(format, 0, writer)?);
-    }
-    let errors = Errors {
-        name,
-        source,
-        refusals,
+    let errors = errors_of(alloc, source, refusals)?;
+    let lines = cut(alloc, source)?;
+    put_of_lines(
+        alloc,
+        errors.as_slice(),
+        (name, lines.as_slice()),
         format,
-    };
-    match parse(alloc, source) {
-        Ok(parsed) => put_of_lines(alloc, errors, source, parsed.lines(), writer),
-        Err(fault) => {
-            refused(fault)?;
-            put_of_text(alloc, errors, writer)
-        }
-    }
+        writer,
+    )
 }

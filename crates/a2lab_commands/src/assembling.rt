@@ -7,22 +7,7 @@ use crate::refusal::Refusal;
 use a2_check::{Format, put_refusals, refusals_of};
 use a2_run::{AssembledText, RunFault};
 use a2_stream::Output;
-use a2_syntax::Fault;
 use std::alloc::Global;
-
-/// Reports these errors of `text`, the source `name`, as `check` does, and returns the error that ends the command.
-pub fn report_errors<'a, E: Output>(
-    alloc: Global,
-    name: Option<&str>,
-    text: &[u8],
-    errors: &[Fault],
-    complaints: &mut E,
-) -> Refusal<'a> {
-    let name = name.unwrap_or("-");
-    // If this fails, there is no place left to report it.
-    let _ = put_refusals(alloc, name, text, errors, Format::Long, complaints);
-    Refusal::Reported
-}
 
 /// Reports all errors of `text`, the source `name`, as `check` does, and returns the error that ends the command.
 pub fn report_source_errors<'a, E: Output>(
@@ -31,10 +16,13 @@ pub fn report_source_errors<'a, E: Output>(
     text: &[u8],
     complaints: &mut E,
 ) -> Refusal<'a> {
-    match refusals_of(alloc, text) {
-        Ok(errors) => report_errors(alloc, name, text, errors.as_slice(), complaints),
-        Err(_) => Refusal::Fault(RunFault::Memory),
-    }
+    let Ok(errors) = refusals_of(alloc, text) else {
+        return Refusal::Fault(RunFault::Memory);
+    };
+    let (name, errors) = (name.unwrap_or("-"), errors.as_slice());
+    // If this fails, there is no place left to report it.
+    let _ = put_refusals(alloc, name, text, errors, Format::Long, complaints);
+    Refusal::Reported
 }
 
 /// Assembles `text`, the source `name`. If it has errors, reports all of them as `check` does.

@@ -2,17 +2,17 @@
 
 ghost use Rattle.std.specs.Prelude.{◌≡◌, ◌≢◌, codes, IfSome};
 
-use crate::assembling::report_errors;
 use crate::files::text_of;
 use crate::refusal::Refusal;
-use a2_check::refusals_of;
+use a2_authors::{Home, errors_as_written, errors_at_home};
+use a2_check::{ErrorFile, Format, ReportFault, put_errors, refusals_of};
 use a2_expand::{
     ExpandFault, FaultReport, FaultText, LoadedFile, MOST_FILES, Origin, Problem, Warning, expand,
     fault_message, fault_report, uses_larger_operation, uses_nothing_larger,
 };
 use a2_host::Shelf;
 use a2_run::read_text;
-use a2_stream::{Input, Output, WriteFault, put, put_all};
+use a2_stream::{Input, Output, put, put_all};
 use a2_syntax::Fault;
 use a2_text::decimal;
 use std::alloc::{AllocError, Global};
@@ -287,60 +287,55 @@ pub fn reading_of<S: Shelf>(
     }
 }
 
-/// Returns the errors of `text`, a source whose expansion has the errors `expanded`, if they say more than these: the source has no
-/// operation of the larger language, and not more errors than its expansion.
-pub fn errors_as_written(
+/// Returns an expansion together with what its author wrote.
+pub fn home_of(alloc: Global, made: &Expanded) -> Result<Home<'_, Global>, AllocError> {
+    let mut texts = Vec::new(alloc);
+    for file in made.files.iter() {
+        texts.push(file.text.as_slice())?;
+    }
+    Home::new(
+        alloc,
+        made.text.as_slice(),
+        made.origins.as_slice(),
+        texts.as_slice(),
+    )
+}
+
+// Returns the name of a file, or `?` if it is not text.
+fn name_of(file: &SourceFile) -> &str {
+    from_utf8(file.name.as_slice()).unwrap_or("?")
+}
+
+// Returns a file with this name and these lines.
+fn error_file<'s>(name: &'s str, lines: &'s [&'s [u8]]) -> ErrorFile<'s> {
+    ErrorFile { name, lines }
+}
+
+/// Returns the source and the files that it includes, with their lines.
+pub fn files_at_home<'s: 'h, 'h>(
     alloc: Global,
-    text: &[u8],
-    expanded: &[Fault],
-) -> Result<Option<Vec<Fault>>, AllocError> {
-    if uses_larger_operation(alloc, text)? {
-        return Ok(None);
+    made: &'s Expanded,
+    home: &'h Home<'s, Global>,
+) -> Result<Vec<ErrorFile<'h>>, AllocError> {
+    let mut files = Vec::new(alloc);
+    for (number, file) in made.files.iter().enumerate() {
+        files.push(error_file(name_of(file), home.lines_of(number)))?;
     }
-    let errors = refusals_of(alloc, text)?;
-    Ok(if errors.len() <= expanded.len() {
-        Some(errors)
-    } else {
-        None
-    })
+    Ok(files)
 }
 
-// Writes the line of a source from which a line of its expansion comes.
-fn put_origin<E: Output>(
-    plain: u16,
-    at: &Origin,
-    files: &[SourceFile],
-    complaints: &mut E,
-) -> Result<(), WriteFault> {
-    let name: &[u8] = match files.get(at.file) {
-        Some(file) => file.name.as_slice(),
-        None => b"-",
-    };
-    let plain = decimal(u64::from(plain));
-    let number = decimal(at.line as u64);
-    let pieces: [&[u8]; 7] = [
-        b"note: line ",
-        plain.as_slice(),
-        b" of the expansion comes from line ",
-        number.as_slice(),
-        b" of ",
-        name,
-        b"\n",
-    ];
-    put_all(&pieces, complaints)
-}
-
-/// Writes, for each error of a line of an expansion, the line of the file from which that line comes.
-pub fn report_origins<E: Output>(made: &Expanded, errors: &[Fault], complaints: &mut E) {
-    for fault in errors {
-        let plain = fault.line();
-        if let Some(index) = usize::from(plain).checked_sub(1) {
-            if let Some(at) = made.origins.get(index) {
-                // If this fails, there is no place left to report it.
-                let _ = put_origin(plain, at, made.files.as_slice(), complaints);
-            }
-        }
-    }
+/// Writes the errors of an expansion in this format, each at the line of the source or file that it comes from.
+pub fn put_errors_at_home<W: Output>(
+    alloc: Global,
+    made: &Expanded,
+    refusals: &[Fault],
+    format: Format,
+    writer: &mut W,
+) -> Result<(), ReportFault> {
+    let home = home_of(alloc, made)?;
+    let errors = errors_at_home(alloc, &home, refusals)?;
+    let files = files_at_home(alloc, made, &home)?;
+    put_errors(alloc, errors.as_slice(), files.as_slice(), format, writer)
 }
 
 // Says that the lines of a source are those of its expansion.
@@ -373,19 +368,12 @@ fn text_to_assemble<'a, E: Output>(
         note_expansion(file.unwrap_or("-"), complaints);
         return Ok(made.text);
     }
-    if errors_as_written(alloc, text.as_slice(), errors.as_slice())?.is_some() {
+    if errors_as_written(alloc, text.as_slice(), errors.len())?.is_some() {
         return Ok(text);
     }
     let _ = put(made.warnings.as_slice(), complaints);
-    let refusal = report_errors(
-        alloc,
-        file,
-        made.text.as_slice(),
-        errors.as_slice(),
-        complaints,
-    );
-    report_origins(&made, errors.as_slice(), complaints);
-    Err(refusal)
+    let _ = put_errors_at_home(alloc, &made, errors.as_slice(), Format::Long, complaints);
+    Err(Refusal::Reported)
 }
 
 /// Returns the text that a command assembles of `text`, the source `file`. If that uses the larger language, a line on `complaints` says that

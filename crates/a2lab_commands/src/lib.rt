@@ -24,14 +24,14 @@ mod timed;
 mod wrapping;
 
 pub use asked::{CommandArgs, FileRunArgs, after_first, keys_in, run_args};
-pub use assembling::{assembled_text, report_errors, report_source_errors};
+pub use assembling::{assembled_text, report_source_errors};
 pub use commands::{CommandRow, Tool, all_commands, command_named, row_of};
 pub use complaint::report_arguments;
 pub use drafts::settled;
 pub use ending::{end_status, put_end_state, stop_status};
 pub use expanding::{
-    Expanded, Expansion, Reading, SourceFile, Unexpanded, errors_as_written, expanded_text,
-    expanded_text_of, expansion_of, reading_of, report_origins,
+    Expanded, Expansion, Reading, SourceFile, Unexpanded, expanded_text, expanded_text_of,
+    expansion_of, files_at_home, home_of, put_errors_at_home, reading_of,
 };
 pub use fault_report::{report_fault, report_write};
 pub use files::{INPUT, loaded_text, long_text, refuse_overwriting_input, text_of};

@@ -7,10 +7,11 @@ use crate::pages::{Examined, page_of, same_page};
 use crate::sessions::read_sessions;
 use a2_arguments::Arguments;
 use a2_check::Format::Long;
-use a2_check::{put_refusals, refusals_of};
+use a2_check::{ReportFault, put_refusals, refusals_of};
 use a2_host::{Desk, Shelf};
 use a2_run::{AssembledText, ReadingFault, RunFault, read_text};
 use a2_stream::{Input, Output, ToWrite, put};
+use a2_syntax::Fault;
 use a2_tests::{
     Case, Format, Found, Line, NumberedLine, SourceErrors, Totals, cases_of, judge_source,
     lines_of, put_head, put_line_fault,
@@ -18,8 +19,8 @@ use a2_tests::{
 use a2_text::cut;
 use a2lab_commands::options::{PAGES, TEST_FORMAT};
 use a2lab_commands::{
-    CommandArgs, Host, Message, Reading, Refusal, Value, is_input, reading_of, report,
-    report_origins,
+    CommandArgs, Host, Message, Reading, Refusal, Value, is_input, put_errors_at_home, reading_of,
+    report,
 };
 use std::alloc::{AllocError, Global};
 
@@ -130,22 +131,30 @@ struct Solution<'a> {
     reading: &'a Reading,
 }
 
-// Returns the errors of a solution, as `check` prints them.
+// Writes the errors of a solution, as `check` prints them.
+fn put_errors_of<W: Output>(
+    alloc: Global,
+    solution: Solution<'_>,
+    refusals: &[Fault],
+    writer: &mut W,
+) -> Result<(), ReportFault> {
+    match solution.reading {
+        Reading::Larger(made) => put_errors_at_home(alloc, made, refusals, Long, writer),
+        _ => put_refusals(alloc, solution.name, solution.text, refusals, Long, writer),
+    }
+}
+
+// Returns the errors of a solution.
 fn errors_of(alloc: Global, solution: Solution<'_>) -> Result<Vec<u8>, RunFault> {
     let refusals = refusals_of(alloc, solution.text)?;
     let mut lines = Vec::new(alloc);
-    put_refusals(
+    put_errors_of(
         alloc,
-        solution.name,
-        solution.text,
+        solution,
         refusals.as_slice(),
-        Long,
         &mut ToWrite::new(&mut lines),
     )
     .map_err(|_| RunFault::Memory)?;
-    if let Reading::Larger(expanded) = solution.reading {
-        report_origins(expanded, refusals.as_slice(), &mut ToWrite::new(&mut lines));
-    }
     Ok(lines)
 }
 

@@ -2,9 +2,10 @@
 
 ghost use Rattle.std.specs.Prelude.{◌≤◌, IfOk};
 
-use crate::authors::{put_expanded_errors, put_expanded_warnings, put_unexpanded};
+use crate::authors::{put_expanded_warnings, put_unexpanded};
 use a2_arguments::Arguments;
 use a2_asm::Program;
+use a2_authors::errors_as_written;
 use a2_check::{Format, ReportFault, Verdict, put_refusals, put_warnings, verdict_of, warnings_of};
 use a2_host::Shelf;
 use a2_run::{AssembledText, RunFault};
@@ -13,8 +14,8 @@ use a2_syntax::{Fault, Source};
 use a2_text::cut;
 use a2lab_commands::options::CHECK_FORMAT;
 use a2lab_commands::{
-    CommandArgs, Expanded, Host, Reading, Refusal, Unexpanded, errors_as_written, reading_of,
-    report_origins, text_of,
+    CommandArgs, Expanded, Host, Reading, Refusal, Unexpanded, put_errors_at_home, reading_of,
+    text_of,
 };
 use bumpalo::Bump;
 use std::alloc::{AllocError, Allocator, Global};
@@ -146,9 +147,8 @@ fn refuse_unexpanded<W: Output>(
     Ok(1)
 }
 
-// Prints the errors of an expansion at the lines of the source; in the long format, notes after them say which lines these are. If the errors
-// of the source itself say more, those are printed.
-fn put_errors_of_larger<S, D, C, R, W: Output, E: Output>(
+// Prints the errors of an expansion at the lines of the source and its files. If the errors of the source itself say more, those are printed.
+fn put_errors_of_larger<S, D, C, R, W: Output, E>(
     text: Text<'_>,
     made: &Expanded,
     errors: &[Fault],
@@ -156,17 +156,11 @@ fn put_errors_of_larger<S, D, C, R, W: Output, E: Output>(
     host: &mut Host<S, D, C, R, W, E>,
 ) -> Result<(), ReportFault> {
     let alloc = host.alloc;
-    if let Some(own) = errors_as_written(alloc, text.source, errors)? {
+    if let Some(own) = errors_as_written(alloc, text.source, errors.len())? {
         return put_headed(alloc, text, own.as_slice(), format, &mut host.output);
     }
-    if format != Format::Long {
-        return put_expanded_errors(alloc, format, made, errors, &mut host.output);
-    }
     put_name(text, format, &mut host.output)?;
-    let lines = made.text.as_slice();
-    put_refusals(alloc, text.name, lines, errors, format, &mut host.output)?;
-    report_origins(made, errors, &mut host.complaints);
-    Ok(())
+    put_errors_at_home(alloc, made, errors, format, &mut host.output)
 }
 
 // Prints the warnings for an expansion that is accepted, at the lines of the source.
