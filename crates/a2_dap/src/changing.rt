@@ -126,15 +126,21 @@ pub fn set(inspector: &mut Inspector<'_>, setting: Setting) -> Outcome
     make(inspector, setting)
 }
 
-/// Writes bytes, as far as there is memory to note them.
-pub fn write(inspector: &mut Inspector<'_>, writing: &Writing)
+/// Writes bytes, one after another, and returns how many were written: all, or those for which there was memory to note them.
+pub fn write(inspector: &mut Inspector<'_>, writing: &Writing) -> usize
     ensures { Reaches inspector.old inspector.new }
 {
+    let mut count: usize = 0;
     let mut address = writing.first;
     for byte in writing.bytes.as_slice() {
-        let _ = make(inspector, Setting::Byte(address, *byte));
+        let outcome = make(inspector, Setting::Byte(address, *byte));
+        if !matches!(outcome, Outcome::Changed(_)) {
+            break;
+        }
+        count = count.saturating_add(1);
         address = address.wrapping_add(1);
     }
+    count
 }
 
 /// Returns where the run can continue for a line, or `None` if the line has no instruction and none follows.

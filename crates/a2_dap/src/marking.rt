@@ -1,6 +1,6 @@
 //! Breakpoints: where they are, and what they need besides.
 
-ghost use Rattle.a2_dap.specs.Requests.{Reaches};
+ghost use Rattle.a2_dap.specs.Requests.{Travels};
 
 use a2_debugger::{Break, Inspector, InspectorCommand, Watch};
 use a2_symbols::Span;
@@ -77,7 +77,7 @@ pub fn arrive_backwards(marks: &[Mark], address: u16) -> Arrival {
 
 // Sets breakpoints.
 fn set_breaks(inspector: &mut Inspector<'_>, marks: &[Mark])
-    ensures { Reaches inspector.old inspector.new }
+    ensures { Travels inspector.old inspector.new }
 {
     for mark in marks {
         let _ = inspector.execute_command(InspectorCommand::Break(mark.place));
@@ -86,7 +86,7 @@ fn set_breaks(inspector: &mut Inspector<'_>, marks: &[Mark])
 
 // Watches bytes.
 fn set_watches(inspector: &mut Inspector<'_>, watches: &[Span])
-    ensures { Reaches inspector.old inspector.new }
+    ensures { Travels inspector.old inspector.new }
 {
     for span in watches {
         let _ = inspector.execute_command(InspectorCommand::Watch(Watch::OfBytes(*span)));
@@ -95,7 +95,7 @@ fn set_watches(inspector: &mut Inspector<'_>, watches: &[Span])
 
 /// Sets these breakpoints and watches these bytes, in place of all others.
 pub fn set_stops(inspector: &mut Inspector<'_>, marks: &[Mark], watches: &[Span])
-    ensures { Reaches inspector.old inspector.new }
+    ensures { Travels inspector.old inspector.new }
 {
     let _ = inspector.execute_command(InspectorCommand::Clear);
     set_breaks(inspector, marks);

@@ -3,7 +3,7 @@
 ghost use Rattle.std.specs.Prelude.{◌≡◌};
 ghost use Rattle.a2_debugger.specs.Inspections.{IsDone};
 ghost use Rattle.a2_debugger.specs.declared.inspector_command.InspectorCommand.TheVariants.{Step, Back};
-ghost use Rattle.a2_dap.specs.Requests.{Reaches};
+ghost use Rattle.a2_dap.specs.Requests.{Travels};
 
 use crate::evaluating::put_log;
 use crate::marking::{Arrival, Mark, arrive, arrive_backwards};
@@ -126,7 +126,7 @@ fn judge(
 
 /// Executes steps up to a stop.
 pub fn go_on(inspector: &mut Inspector<'_>, journey: &mut Journey<'_>) -> Stop
-    ensures { Reaches inspector.old inspector.new }
+    ensures { Travels inspector.old inspector.new }
 {
     let from = inspector.machine().steps();
     for _ in 0..journey.most {
@@ -161,7 +161,7 @@ fn judge_leaving(
 
 // Leaves routines until the stack pointer is at least `s`, or up to a stop.
 fn leave(inspector: &mut Inspector<'_>, journey: &mut Journey<'_>, s: u8, first: Outcome) -> Stop
-    ensures { Reaches inspector.old inspector.new }
+    ensures { Travels inspector.old inspector.new }
 {
     let from = inspector.machine().steps();
     let mut outcome = first;
@@ -177,7 +177,7 @@ fn leave(inspector: &mut Inspector<'_>, journey: &mut Journey<'_>, s: u8, first:
 
 /// Executes one step.
 pub fn step_once(inspector: &mut Inspector<'_>, journey: &mut Journey<'_>) -> Stop
-    ensures { Reaches inspector.old inspector.new }
+    ensures { Travels inspector.old inspector.new }
 {
     let outcome = step_in(inspector);
     stop_of_step(inspector, journey, outcome)
@@ -185,7 +185,7 @@ pub fn step_once(inspector: &mut Inspector<'_>, journey: &mut Journey<'_>) -> St
 
 // Executes a JSR and its routine, or steps up to a stop in it.
 fn step_over_call(inspector: &mut Inspector<'_>, journey: &mut Journey<'_>) -> Stop
-    ensures { Reaches inspector.old inspector.new }
+    ensures { Travels inspector.old inspector.new }
 {
     let s = inspector.machine().regs().s;
     let outcome = inspector.execute_command(InspectorCommand::Next);
@@ -194,7 +194,7 @@ fn step_over_call(inspector: &mut Inspector<'_>, journey: &mut Journey<'_>) -> S
 
 /// Executes one step, or a whole routine if the step is a `JSR`, or steps up to a stop in it.
 pub fn step_over(inspector: &mut Inspector<'_>, journey: &mut Journey<'_>) -> Stop
-    ensures { Reaches inspector.old inspector.new }
+    ensures { Travels inspector.old inspector.new }
 {
     if is_call(inspector.machine()) {
         step_over_call(inspector, journey)
@@ -227,7 +227,7 @@ fn innermost(inspector: &mut Inspector<'_>) -> Option<u8>
 
 // Executes steps until a routine returns, or up to a stop. The routine is given by the stack pointer before its JSR.
 fn step_out_of(inspector: &mut Inspector<'_>, journey: &mut Journey<'_>, s: u8) -> Stop
-    ensures { Reaches inspector.old inspector.new }
+    ensures { Travels inspector.old inspector.new }
 {
     let outcome = inspector.execute_command(InspectorCommand::Out);
     leave(inspector, journey, s, outcome)
@@ -235,7 +235,7 @@ fn step_out_of(inspector: &mut Inspector<'_>, journey: &mut Journey<'_>, s: u8) 
 
 /// Executes steps until the innermost routine returns, or up to a stop.
 pub fn step_out(inspector: &mut Inspector<'_>, journey: &mut Journey<'_>) -> Stop
-    ensures { Reaches inspector.old inspector.new }
+    ensures { Travels inspector.old inspector.new }
 {
     match innermost(inspector) {
         Some(s) => step_out_of(inspector, journey, s),
@@ -245,7 +245,7 @@ pub fn step_out(inspector: &mut Inspector<'_>, journey: &mut Journey<'_>) -> Sto
 
 /// Goes back one step, unless the run is at its start.
 pub fn step_once_back(inspector: &mut Inspector<'_>, journey: &mut Journey<'_>) -> Stop
-    ensures { Reaches inspector.old inspector.new }
+    ensures { Travels inspector.old inspector.new }
 {
     let outcome = step_back(inspector);
     stop_of_step_back(inspector, journey, outcome)
@@ -291,7 +291,7 @@ fn changed_backwards(inspector: &Inspector<'_>, watches: &[Span]) -> Stop {
 
 // Goes back to the latest earlier stop. If there is none, returns `Stop::Start`.
 fn go_back_to_stop(inspector: &mut Inspector<'_>, journey: &mut Journey<'_>) -> Stop
-    ensures { Reaches inspector.old inspector.new }
+    ensures { Travels inspector.old inspector.new }
 {
     for _ in 0..journey.most {
         let outcome = inspector.execute_command(InspectorCommand::GoBack);
@@ -304,7 +304,7 @@ fn go_back_to_stop(inspector: &mut Inspector<'_>, journey: &mut Journey<'_>) -> 
 
 // Goes back to the start, if a run is to be there.
 fn go_to_start_if(inspector: &mut Inspector<'_>, stop: Stop)
-    ensures { Reaches inspector.old inspector.new }
+    ensures { Travels inspector.old inspector.new }
 {
     match stop {
         Stop::Start => go_to_start(inspector),
@@ -314,14 +314,14 @@ fn go_to_start_if(inspector: &mut Inspector<'_>, stop: Stop)
 
 // Goes back to the start.
 fn go_to_start(inspector: &mut Inspector<'_>)
-    ensures { Reaches inspector.old inspector.new }
+    ensures { Travels inspector.old inspector.new }
 {
     inspector.go_to_start();
 }
 
 /// Goes back to the latest earlier stop, or to the start if there is none.
 pub fn go_back(inspector: &mut Inspector<'_>, journey: &mut Journey<'_>) -> Stop
-    ensures { Reaches inspector.old inspector.new }
+    ensures { Travels inspector.old inspector.new }
 {
     let stop = go_back_to_stop(inspector, journey);
     go_to_start_if(inspector, stop);
@@ -330,7 +330,7 @@ pub fn go_back(inspector: &mut Inspector<'_>, journey: &mut Journey<'_>) -> Stop
 
 // Takes back a step and executes it again, and returns its address.
 fn address_before(inspector: &mut Inspector<'_>) -> u16
-    ensures { Reaches inspector.old inspector.new }
+    ensures { Travels inspector.old inspector.new }
 {
     let _ = step_back(inspector);
     let address = inspector.machine().regs().pc;
@@ -339,9 +339,9 @@ fn address_before(inspector: &mut Inspector<'_>) -> u16
 }
 
 /// Returns the address of the last step, or of the next one at the start.
-#[tactic(auto, using(crate::proofs::Reaching::stays))]
+#[tactic(auto, using(crate::proofs::Travelling::stays))]
 pub fn last_address(inspector: &mut Inspector<'_>) -> u16
-    ensures { Reaches inspector.old inspector.new }
+    ensures { Travels inspector.old inspector.new }
 {
     if inspector.machine().steps() == 0 {
         inspector.machine().regs().pc

@@ -1,6 +1,6 @@
 //! What a stop prints, and the event of a stop.
 
-ghost use Rattle.a2_dap.specs.Requests.{Reaches};
+ghost use Rattle.a2_dap.specs.Requests.{Travels};
 
 use crate::moving::{Stop, last_address};
 use crate::replies::Replies;
@@ -141,9 +141,9 @@ pub struct Standing<'a> {
 }
 
 // Returns the address of the step that changes watched bytes.
-#[tactic(auto, using(crate::proofs::Reaching::stays))]
+#[tactic(auto, using(crate::proofs::Travelling::stays))]
 fn changer_of(inspector: &mut Inspector<'_>, stop: Stop) -> u16
-    ensures { Reaches inspector.old inspector.new }
+    ensures { Travels inspector.old inspector.new }
 {
     match stop {
         Stop::Changed(_) => last_address(inspector),
@@ -158,7 +158,7 @@ pub fn report_stop(
     standing: Standing<'_>,
     replies: &mut Replies,
 ) -> Result<(), AllocError>
-    ensures { Reaches inspector.old inspector.new }
+    ensures { Travels inspector.old inspector.new }
 {
     let changer = changer_of(inspector, standing.stop);
     let text = text_of(alloc, standing.told)?;

@@ -3,7 +3,7 @@
 ghost use Rattle.std.specs.Prelude.{◌≡◌, IfOk};
 ghost use Rattle.a2_machine.specs.State.{world_of_state};
 ghost use Rattle.a2_history.specs.Going.{here};
-ghost use Rattle.a2_dap.specs.Requests.{Reaches};
+ghost use Rattle.a2_dap.specs.Requests.{Handles, Reaches, Travels};
 
 use crate::breakpoints::{Place, refuse_marks, set_marks, set_watches, watch_info};
 use crate::changing::{
@@ -91,7 +91,7 @@ pub struct Start<'p> {
 
 // Moves a run as a request asks.
 fn move_run(inspector: &mut Inspector<'_>, journey: &mut Journey<'_>, command: Command) -> Stop
-    ensures { Reaches inspector.old inspector.new }
+    ensures { Travels inspector.old inspector.new }
 {
     match command {
         Command::Continue => go_on(inspector, journey),
@@ -216,6 +216,9 @@ const WRITING_FORM: &str = "only bytes of $0000 to $BFFF can be written, at most
 // What a request is answered that could not be noted.
 const NO_ROOM: &str = "not changed: there is not enough memory";
 
+const WRITTEN_IN_PART: &str =
+    "only the first of these bytes were written: there is not enough memory";
+
 // Returns the answer that so many bytes were written.
 fn written(alloc: Global, bytes: u64) -> Result<Value, AllocError> {
     json!(in alloc; {"bytesWritten": bytes})
@@ -280,7 +283,7 @@ impl<'a> Session<'a> {
         inspector: Inspector<'a>,
         replies: &mut Replies,
     ) -> Result<(), AllocError>
-        ensures { Reaches inspector.entry self.new.inspector }
+        ensures { Travels inspector.entry self.new.inspector }
     {
         self.inspector = inspector;
         self.apply_stops();
@@ -289,7 +292,7 @@ impl<'a> Session<'a> {
 
     // Moves the run, and reports its stop.
     fn travel(&mut self, command: Command, replies: &mut Replies) -> Result<(), AllocError>
-        ensures { Reaches self.old.inspector self.new.inspector }
+        ensures { Travels self.old.inspector self.new.inspector }
     {
         let mut journey = Journey {
             marks: &mut self.marks,
@@ -308,7 +311,7 @@ impl<'a> Session<'a> {
 
     // Reports a stop.
     fn report(&mut self, stop: Stop, replies: &mut Replies) -> Result<(), AllocError>
-        ensures { Reaches self.old.inspector self.new.inspector }
+        ensures { Travels self.old.inspector self.new.inspector }
     {
         let standing = Standing {
             stop,
@@ -320,7 +323,7 @@ impl<'a> Session<'a> {
 
     // Begins the run, or reports that it stops before its first step.
     fn begin(&mut self, replies: &mut Replies) -> Result<(), AllocError>
-        ensures { Reaches self.old.inspector self.new.inspector }
+        ensures { Travels self.old.inspector self.new.inspector }
     {
         if self.stops_on_entry {
             return self.report(Stop::Start, replies);
@@ -369,7 +372,7 @@ impl<'a> Session<'a> {
 
     // Sets the breakpoints of the session for its run.
     fn apply_stops(&mut self)
-        ensures { Reaches self.old.inspector self.new.inspector }
+        ensures { Travels self.old.inspector self.new.inspector }
     {
         set_stops(
             &mut self.inspector,
@@ -380,7 +383,7 @@ impl<'a> Session<'a> {
 
     // Answers a request that sets breakpoints.
     fn set(&mut self, request: &Request, replies: &mut Replies) -> Result<(), AllocError>
-        ensures { Reaches self.old.inspector self.new.inspector }
+        ensures { Travels self.old.inspector self.new.inspector }
     {
         let answer = self.note_stops(request);
         self.apply_stops();
@@ -398,14 +401,14 @@ impl<'a> Session<'a> {
 
     // Reports a step, so that the editor shows the run anew: if the run has moved since it had made `steps` steps, or if a line
     // was to set something.
-    #[tactic(auto, using(crate::proofs::Reaching::stays))]
+    #[tactic(auto, using(crate::proofs::Travelling::stays))]
     fn report_move(
         &mut self,
         steps: u64,
         sets: bool,
         replies: &mut Replies,
     ) -> Result<(), AllocError>
-        ensures { Reaches self.old.inspector self.new.inspector }
+        ensures { Travels self.old.inspector self.new.inspector }
     {
         if sets || self.inspector.machine().steps() != steps {
             self.report(Stop::Stepped, replies)
@@ -506,9 +509,9 @@ impl<'a> Session<'a> {
     }
 
     // Answers a request that moves the run.
-    #[tactic(auto, using(crate::proofs::Reaching::stays))]
+    #[tactic(auto, using(crate::proofs::Travelling::stays))]
     fn travel_for(&mut self, request: &Request, replies: &mut Replies) -> Result<(), AllocError>
-        ensures { Reaches self.old.inspector self.new.inspector }
+        ensures { Travels self.old.inspector self.new.inspector }
     {
         replies.accept(request)?;
         match request.command {
@@ -518,9 +521,9 @@ impl<'a> Session<'a> {
     }
 
     // Sets the causes at which the run stops in place of ending.
-    #[tactic(auto, using(crate::proofs::Reaching::stays))]
+    #[tactic(auto, using(crate::proofs::Travelling::stays))]
     fn set_filters(&mut self, request: &Request, replies: &mut Replies) -> Result<(), AllocError>
-        ensures { Reaches self.old.inspector self.new.inspector }
+        ensures { Travels self.old.inspector self.new.inspector }
     {
         self.filters = causes_in(self.alloc, request)?;
         replies.accept(request)
@@ -528,7 +531,7 @@ impl<'a> Session<'a> {
 
     // Answers the question for the routines.
     fn show_stack(&mut self, request: &Request, replies: &mut Replies) -> Result<(), AllocError>
-        ensures { Reaches self.old.inspector self.new.inspector }
+        ensures { Travels self.old.inspector self.new.inspector }
     {
         let body = stack_of(
             self.alloc,
@@ -575,14 +578,20 @@ impl<'a> Session<'a> {
     {
         match writing_in(self.alloc, request.arguments())? {
             Some(writing) => {
-                write(&mut self.inspector, &writing);
-                replies.respond(request, written(self.alloc, writing.bytes.len() as u64)?)
+                let count = write(&mut self.inspector, &writing);
+                if count < writing.bytes.len() {
+                    return replies.refuse(
+                        request,
+                        if count == 0 { NO_ROOM } else { WRITTEN_IN_PART },
+                    );
+                }
+                replies.respond(request, written(self.alloc, count as u64)?)
             }
             None => replies.refuse(request, WRITING_FORM),
         }
     }
 
-    // Sets PC, and reports the stop there.
+    // Sets PC, and reports the stop there, or refuses the request if there was no memory to note it.
     fn jump(
         &mut self,
         setting: Setting,
@@ -591,7 +600,10 @@ impl<'a> Session<'a> {
     ) -> Result<(), AllocError>
         ensures { Reaches self.old.inspector self.new.inspector }
     {
-        let _ = set(&mut self.inspector, setting);
+        let outcome = set(&mut self.inspector, setting);
+        if !matches!(outcome, Outcome::Changed(_)) {
+            return replies.refuse(request, NO_ROOM);
+        }
         let accepted = replies.accept(request);
         let reported = self.report(Stop::Jumped, replies);
         both(accepted, reported)
@@ -609,9 +621,9 @@ impl<'a> Session<'a> {
     }
 
     /// Answers a request during a run.
-    #[tactic(auto, using(crate::proofs::Reaching::stays))]
+    #[tactic(auto, using(crate::proofs::Reaching::stays, crate::proofs::Travelling::stays))]
     pub fn answer(&mut self, request: &Request, replies: &mut Replies) -> Result<Next, AllocError>
-        ensures { Reaches self.old.inspector self.new.inspector }
+        ensures { Handles request.now.command self.old.inspector self.new.inspector }
     {
         match request.command {
             Command::Continue

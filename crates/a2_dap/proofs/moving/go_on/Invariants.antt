@@ -1,6 +1,6 @@
-use Rattle.a2_dap.specs.Requests.{Reaches}
+use Rattle.a2_dap.specs.Requests.{Travels}
 use Rattle.a2_dap.proofs.moving.go_on.Given as goal
 
 -- calls of the debugger led here
 abbrev pub invariant-loop : goal.invariant-loop
-invariant-loop l = Reaches l.fn.inspector l.inspector
+invariant-loop l = Travels l.fn.inspector l.inspector

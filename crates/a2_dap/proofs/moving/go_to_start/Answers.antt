@@ -1,4 +1,4 @@
-use Rattle.a2_dap.proofs.Reaching.{begun}
+use Rattle.a2_dap.proofs.Travelling.{begun}
 use Rattle.a2_dap.proofs.moving.go_to_start.Goals as goal
 
 pub returns : goal.returns

@@ -1,4 +1,4 @@
-use Rattle.a2_dap.proofs.Reaching.{joined, same}
+use Rattle.a2_dap.proofs.Travelling.{joined, same}
 use Rattle.a2_dap.proofs.moving.step_out.Goals as goal
 
 pub returns-in-Some : goal.returns-in-Some

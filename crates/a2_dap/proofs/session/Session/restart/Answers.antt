@@ -1,4 +1,4 @@
-use Rattle.a2_dap.proofs.Reaching.{joined}
+use Rattle.a2_dap.proofs.Travelling.{joined}
 use Rattle.a2_dap.proofs.session.Session.restart.Goals as goal
 
 pub returns : goal.returns

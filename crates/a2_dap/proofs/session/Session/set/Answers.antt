@@ -1,4 +1,4 @@
-use Rattle.a2_dap.proofs.Reaching.{joined, same}
+use Rattle.a2_dap.proofs.Travelling.{joined, same}
 use Rattle.a2_dap.proofs.session.Session.set.Goals as goal
 
 pub returns : goal.returns

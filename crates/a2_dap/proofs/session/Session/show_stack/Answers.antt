@@ -1,4 +1,4 @@
-use Rattle.a2_dap.proofs.Reaching.{same}
+use Rattle.a2_dap.proofs.Travelling.{same}
 use Rattle.a2_dap.proofs.session.Session.show_stack.Goals as goal
 
 pub returns : goal.returns
