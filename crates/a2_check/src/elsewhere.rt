@@ -68,7 +68,7 @@ static DIRECTIVES: [(&[u8], &[u8]); 15] = [
 ];
 
 // The same for instructions, of other processors too.
-static INSTRUCTIONS: [(&[u8], &[u8]); 31] = [
+static INSTRUCTIONS: [(&[u8], &[u8]); 37] = [
     (b"BGE JC JAE BHS", b"write  BCS "),
     (b"BLT JNC JB BLO", b"write  BCC "),
     (b"BTR BNZ JNE JNZ", b"write  BNE "),
@@ -86,15 +86,15 @@ static INSTRUCTIONS: [(&[u8], &[u8]); 31] = [
     (b"SHR SRL", b"write  LSR "),
     (b"LOAD", b"write  LDA "),
     (b"STORE", b"write  STA "),
-    (b"INA", b"write  CLC, then  ADC #1 in the next line"),
-    (b"DEA", b"write  SEC, then  SBC #1 in the next line"),
-    (b"PUSH", b"write  PHA, which pushes A"),
-    (b"POP PULL", b"write  PLA, which pulls A"),
+    (b"INA INCA", b"write  CLC, then  ADC #1 in the next line"),
+    (b"DEA DECA", b"write  SEC, then  SBC #1 in the next line"),
+    (b"PUSH PSH PSHA PUSHA", b"write  PHA, which pushes A"),
+    (b"POP PULL PUL PULA POPA", b"write  PLA, which pulls A"),
     (
-        b"MOV MOVE LD ST",
+        b"MOV MOVE LD ST LET POKE PEEK",
         b"use LDA, LDX or LDY to load a byte, and STA, STX or STY to store it",
     ),
-    (b"NOT", b"write  EOR #$FF"),
+    (b"NOT COM CPL", b"write  EOR #$FF"),
     (
         b"NEG",
         b"write  EOR #$FF, then  CLC and  ADC #1 in the next lines",
@@ -113,6 +113,24 @@ static INSTRUCTIONS: [(&[u8], &[u8]); 31] = [
     (
         b"PLX PLY",
         b"write  PLA, then  TAX or  TAY in the next line",
+    ),
+    (b"TXY", b"write  TXA, then  TAY in the next line"),
+    (b"TYX", b"write  TYA, then  TAX in the next line"),
+    (
+        b"BGT BHI JA JG",
+        b"write  BEQ *+4, then in the next line  BCS ",
+    ),
+    (
+        b"BLE BLS JBE JLE",
+        b"write  BEQ to the same label, then in the next line  BCC ",
+    ),
+    (
+        b"PRINT",
+        b"load each character into A, and print it with JSR to the service COUT",
+    ),
+    (
+        b"FOR WHILE UNTIL",
+        b"write a label above the lines to repeat, and after them a branch back to it, such as  BNE LOOP",
     ),
     (
         b"STZ",

@@ -81,7 +81,10 @@ fn in_number<'a>(at: usize, word: &'a [u8]) -> Option<Finding<'a>> {
             let (shown, _) = word.split_at(word.len().min(address.len().saturating_add(1)));
             found(Mistake::ObjectLine, at, shown)
         }
-        _ => found(Mistake::LineNumber, at, word),
+        _ if front_len(word, |c| matches!(c, b'0'..=b'9')) == word.len() => {
+            found(Mistake::LineNumber, at, word)
+        }
+        _ => found(Mistake::BadName, at, word),
     }
 }
 

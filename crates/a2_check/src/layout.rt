@@ -254,12 +254,12 @@ impl<'a, A: Allocator + Copy> Place<'a, A> {
                 b"the target is too far away: at most 128 bytes before the next instruction, or 127 after it".as_slice(),
             ),
         };
-        self.parts
-            .at_operand(
-                what,
-                b"branch on the opposite condition to *+5, and JMP to the target in the next line",
-            )
-            .with_number(number)
+        let fix = b"write  @ *+5, then in the next line  JMP ~";
+        Message {
+            first: opposite(self.body),
+            second: self.parts.expression(),
+            ..self.parts.at_operand(what, fix).with_number(number)
+        }
     }
 
     // The line places a byte at an address where an earlier line has one.
@@ -293,7 +293,7 @@ impl<'a, A: Allocator + Copy> Place<'a, A> {
             shown: name,
             first: name,
             second: form,
-            ..self.parts.at_operand(what, b"use one of these forms: ")
+            ..self.parts.at_operand(what, b"write it as in ")
         };
         if has_mode(mnemonic, Mode::Implied) {
             return Message {
@@ -343,6 +343,20 @@ impl<'a, A: Allocator + Copy> Place<'a, A> {
             Fault::Overlap(_) => self.overlap(alloc),
             _ => Ok(self.range()),
         }
+    }
+}
+
+// Returns the branch that branches whenever the branch of a line does not.
+fn opposite<A: Allocator>(body: &Body<A>) -> &'static [u8] {
+    match body {
+        Body::Instr(Mnemonic::Bcc, _) => b"BCS",
+        Body::Instr(Mnemonic::Bcs, _) => b"BCC",
+        Body::Instr(Mnemonic::Beq, _) => b"BNE",
+        Body::Instr(Mnemonic::Bne, _) => b"BEQ",
+        Body::Instr(Mnemonic::Bmi, _) => b"BPL",
+        Body::Instr(Mnemonic::Bpl, _) => b"BMI",
+        Body::Instr(Mnemonic::Bvc, _) => b"BVS",
+        _ => b"BVC",
     }
 }
 

@@ -200,7 +200,7 @@ impl Mistake {
             Mistake::SecondOperand => b"`@` takes only one operand",
             Mistake::Missing => b"a value is missing",
             Mistake::Strange => b"`@` is not allowed here",
-            Mistake::Unclear => b"this is not a valid line",
+            Mistake::Unclear => b"`@` is not a valid operand",
         }
     }
 
@@ -236,7 +236,9 @@ impl Mistake {
             Mistake::NearMnemonic(_) => b"did you mean @?",
             Mistake::LocalLabel => b"write .@, or a name that no other label has, such as L_@",
             Mistake::LongName => b"use a name of at most 32 characters",
-            Mistake::RegisterName | Mistake::Accumulator => b"use another name, such as ACC",
+            Mistake::RegisterName => b"use another name, such as ACC",
+            Mistake::Accumulator =>
+                b"use another name, such as ACC, or leave A out if the instruction uses it anyway",
             Mistake::BadName => b"a name begins with a letter or _, then has letters, digits and _",
             Mistake::Glued => b"put a blank before the operand",
             Mistake::Equals => b"write @ EQU ~",
@@ -246,7 +248,8 @@ impl Mistake {
             Mistake::NoOperation if is_alone(parts) =>
                 b"use one of the 56 mnemonics or a directive; a label begins in column 1",
             Mistake::NoOperation => b"use one of the 56 mnemonics, or ORG, EQU, DFB, DW, ASC or DS",
-            Mistake::NoOperand => b"write a number or a name after it; ASC needs a text in quotes",
+            Mistake::NoOperand =>
+                b"write a number or a name after it; after ASC, write a text in quotes",
             Mistake::OpenQuote => b"close it, as in \"A\" or 'A'",
             Mistake::EmptyText => b"remove the line, or write  DS 0 to keep its label",
             Mistake::NoText =>
@@ -262,7 +265,7 @@ impl Mistake {
             Mistake::Hexadecimal => b"write $@",
             Mistake::Binary => b"write %@",
             Mistake::BadNumber =>
-                b"write 1 to 5 digits, $ and 1 to 4 digits, or % and 1 to 16 digits",
+                b"write 1 to 5 digits, $ and 1 to 4 digits from 0 to F, or % and 1 to 16 digits 0 or 1",
             Mistake::Brackets => b"remove them: + and - are evaluated from left to right",
             Mistake::Operator => b"use only + and -, or write the result as a number",
             Mistake::SquareBracket => b"use ( and )",
@@ -276,8 +279,9 @@ impl Mistake {
             Mistake::SecondOperand =>
                 b"remove the comma and what follows it, or use a new line for that",
             Mistake::Missing => b"write a number, a name, a character in quotes or *",
-            Mistake::Strange | Mistake::Unclear =>
-                b"begin with a label or a blank, then write an operation and its operand",
+            Mistake::Strange => b"remove it, or write a number, a name, a character in quotes or *",
+            Mistake::Unclear =>
+                b"use a form such as ~5, $300, $300,X, ($10,X) or ($10),Y; after ORG, EQU, DFB, DW and DS write a value without ~",
         }
     }
 
@@ -310,6 +314,7 @@ impl Mistake {
             Mistake::OperationInFirstColumn => parts.operation,
             Mistake::NameSecond => name_and_value(parts).1,
             Mistake::AccumulatorValue => b"#$A",
+            Mistake::Unclear => b"#",
             _ => b"",
         }
     }

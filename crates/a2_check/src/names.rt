@@ -62,14 +62,14 @@ pub(crate) fn missing<'a, A: Allocator>(lines: &[Line<A>], body: &'a Body<A>) ->
 }
 
 /// Returns the label that is most similar to an undefined name, or an empty one if none is similar enough. At most two letters
-/// may differ, and fewer than the name has.
+/// may differ, and at most half of them.
 pub(crate) fn nearest<'a, A: Allocator + Copy>(
     alloc: A,
     lines: &'a [Line<A>],
     name: &[u8],
 ) -> Result<&'a [u8], AllocError> {
     let mut nearest = b"".as_slice();
-    let mut least = name.len().min(3);
+    let mut least = (name.len() / 2).min(2) + 1;
     for line in lines {
         if let Some(label) = &line.label {
             let label = label.get().as_bytes();

@@ -113,6 +113,7 @@ fn in_sign(reader: Reader, word: &[u8]) -> Option<Mistake> {
         [b'('] => Some(Mistake::Brackets),
         [b')'] if reader.is_inside && !reader.wants_term => None,
         [b','] if !reader.wants_term => None,
+        [b')'] if !reader.wants_term => Some(Mistake::Strange),
         [b')' | b','] => Some(Mistake::Missing),
         [b'['] | [b']'] => Some(Mistake::SquareBracket),
         [b':'] if reader.is_apart => Some(Mistake::TwoOperations),
@@ -170,6 +171,9 @@ fn in_front(reader: Reader, text: &[u8]) -> Option<Mistake> {
         Some(Mistake::Comment)
     } else if text.starts_with(b": ") {
         Some(Mistake::TwoOperations)
+    } else if text == b":".as_slice() {
+        // A colon after a name, at the end of the line.
+        Some(Mistake::TrailingWords)
     } else if !reader.wants_term && is_index(text) {
         Some(Mistake::Index)
     } else if reader.wants_term && is_after_ampersand(text) {

@@ -1,6 +1,7 @@
 //! Warnings about lines that assemble but may not do what their author meant.
 
 mod addresses;
+mod called;
 mod carry;
 mod falling;
 mod flow;
@@ -10,6 +11,7 @@ mod shown;
 mod statements;
 mod stores;
 
+use crate::warnings::called::warn_of_kept_flags;
 use crate::warnings::carry::{unset_carry, warn_of_carries};
 use crate::warnings::falling::entered_from_above;
 use crate::warnings::flow::is_unreached;
@@ -21,7 +23,7 @@ use crate::warnings::statements::{
 use crate::warnings::stores::LowStores;
 use a2_asm::{Program, Statement};
 use a2_syntax::Line;
-pub use sentences::put_warnings;
+pub use sentences::{put_warnings, sentence_of};
 use std::alloc::{AllocError, Allocator};
 
 /// The kind of a warning. There are no other kinds.
@@ -59,6 +61,8 @@ pub enum WarningKind {
     Compared,
     /// SBC uses the carry that CLC cleared.
     Cleared,
+    /// A branch tests flags that a service of a real machine changes.
+    Kept,
 }
 
 /// A line that may not do what its author meant, and why.
@@ -191,7 +195,8 @@ fn warn_of_flow<A: Allocator>(
             kind: WarningKind::Carry,
         })?;
     }
-    warn_of_carries(warnings, statements)
+    warn_of_carries(warnings, statements)?;
+    warn_of_kept_flags(warnings, statements)
 }
 
 // Adds the warning for a subroutine that the program also enters from the line above it.

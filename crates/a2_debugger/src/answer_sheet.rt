@@ -219,7 +219,7 @@ fn put_cause<A: Allocator + Copy>(cause: Cause, most: u32, sheet: &mut Sheet<A>)
         Cause::Limit => sheet.put_all(&[
             b"gave up after ",
             decimal(u64::from(most)).as_slice(),
-            b" steps; raise it with --limit\n",
+            b" steps; raise it with --limit, or use keys TEXT if the program waits for a key\n",
         ]),
         _ => sheet.put_all(&[b"stopped: ", cause.sentence(), b"\n"]),
     }

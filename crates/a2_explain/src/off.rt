@@ -15,7 +15,7 @@ use std::alloc::{AllocError, Allocator};
 
 // What to do if a run came to an address of the Monitor at which there is no service.
 const NO_SERVICE: &[u8] =
-    b"a2lab: only the Monitor's services exist there, such as COUT; write your own code in place of other calls\n";
+    b"a2lab: only the services that services.md in the manual lists exist there, such as COUT; write your own code for other calls\n";
 
 const RTI: &[u8] =
     b"a2lab: RTI pulls the flags too, and returns from an interrupt; end a routine or program with RTS\n";

@@ -9,7 +9,7 @@ use std::alloc::Allocator;
 const LEVEL: &[u8] = b"a2lab: pull only what PHA or PHP pushed since the last JSR\n";
 
 const ELSEWHERE: &[u8] =
-    b"a2lab: S did not point to a return address; restore S before RTS, or end with JMP $FF69; the last return address is at $01FE\n";
+    b"a2lab: S did not point to a return address; restore S before RTS, or end with JMP $FF69; the return address of the program is at $01FE\n";
 
 const UNSEEN: &[u8] =
     b"a2lab: the last 65536 steps do not show what pushed the bytes that it pulled\n";
@@ -95,7 +95,7 @@ fn put_replaced<A: Allocator + Copy, W: Output>(
         scene,
         b", because ",
         pushed_by,
-        b" replaced the low byte of the return address\n",
+        b" replaced the low byte of the return address; a routine must leave that address unchanged\n",
         writer,
     )
 }
@@ -149,7 +149,7 @@ fn put_short<A: Allocator + Copy, W: Output>(
     match call {
         Some(call) => put_around(scene, b"return address that ", call, b" pushed\n", writer)?,
         None => put(
-            b"last return address, which is on the stack at the start\n",
+            b"return address of the program, which is on the stack at the start\n",
             writer,
         )?,
     }

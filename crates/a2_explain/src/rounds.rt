@@ -61,14 +61,14 @@ fn way_of(statement: &Statement, places: &[Place]) -> Way {
 // Writes whether A, X and Y changed at a place of a loop.
 fn put_change<W: Output>(place: Place, writer: &mut W) -> Result<(), WriteFault> {
     let change: &[u8] = match (place.is_a_same, place.is_x_same, place.is_y_same) {
-        (true, true, true) => b"A, X and Y never changed there",
-        (false, true, true) => b"A changed there, X and Y did not",
-        (true, false, true) => b"X changed there, A and Y did not",
-        (true, true, false) => b"Y changed there, A and X did not",
-        (false, false, true) => b"A and X changed there, Y did not",
-        (false, true, false) => b"A and Y changed there, X did not",
-        (true, false, false) => b"X and Y changed there, A did not",
-        (false, false, false) => b"A, X and Y changed there",
+        (true, true, true) => b"A, X and Y were the same each time",
+        (false, true, true) => b"A differed, X and Y were the same each time",
+        (true, false, true) => b"X differed, A and Y were the same each time",
+        (true, true, false) => b"Y differed, A and X were the same each time",
+        (false, false, true) => b"A and X differed, Y was the same each time",
+        (false, true, false) => b"A and Y differed, X was the same each time",
+        (true, false, false) => b"X and Y differed, A was the same each time",
+        (false, false, false) => b"A, X and Y differed",
     };
     put(change, writer)
 }

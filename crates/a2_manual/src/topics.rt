@@ -72,7 +72,8 @@ E9 BRANCH TOO FAR
      BEQ $382
 LINE 2 E9 BRANCH TOO FAR. BEQ $381 is accepted: it is 127 bytes after the next
 instruction.
-Fix: branch the other way over a JMP.
+Fix: use the opposite branch to skip a JMP. Instead of BEQ FAR, write BNE
+NEXT, then JMP FAR, and the label NEXT in the line after them.
 ~E10
 E10 OUTSIDE RAM
      ORG $BFFF
@@ -1065,11 +1066,11 @@ Removes a breakpoint, if there is one. Answer: nothing.
 ~TYPE
 Debugger: type K
 Types the keys K. Answer: nothing.
-~SCREEN,TEXT PAGE,TEXT PAGES
+~SCREEN,TEXT PAGE,ROW,COLUMN,TEXT PAGES
 Debugger: screen
 Answer: the picture.
 
-Screen, text page
+Screen, text page, row, column
 The screen has 24 rows of 40 characters. They are bytes of memory: row 0
 begins at $0400, row 1 at $0480. Print with COUT ($FDED), or store there.
      LDA #"A"
@@ -1172,8 +1173,8 @@ Binary digits are 0 and 1, the bits of a byte. % says that a number is binary:
      RTS
 A is $05.
 More: docs/manual/language.md
-~NEGATIVE NUMBER,SIGNED NUMBER,NEGATIVE NUMBERS,SIGNED NUMBERS
-Negative number, signed number
+~NEGATIVE NUMBER,SIGNED NUMBER,SIGNED,UNSIGNED,NEGATIVE NUMBERS,SIGNED NUMBERS
+Negative number, signed number, signed, unsigned
 A byte from 128 to 255 can also mean a number below 0: take 256 from it. So
 $FF is -1, and $80 is -128. The byte is the same. Only your program decides
 what it means.
@@ -1192,8 +1193,8 @@ comes first in memory. < gives the low byte of a number, and > its high byte.
      RTS
 A is $34, and X is $12.
 More: docs/manual/language.md
-~ASCII,CHARACTER,CHARACTERS
-ASCII, character
+~ASCII,CHARACTER,QUOTE,CHARACTERS,QUOTES
+ASCII, character, quote
 ASCII gives each character a number: A is $41, 0 is $30, the space is $20. In
 a source, 'A' is this number. "A" is the same with bit 7 set, $C1: the screen
 shows it as a normal character, and the keyboard gives it.
@@ -1233,8 +1234,8 @@ after #, or the address of a byte. Some operations have none.
      RTS
 X is $05.
 More: docs/manual/language.md
-~LABEL,NAME,SYMBOL,LABELS,NAMES,SYMBOLS
-Label, name, symbol
+~LABEL,NAME,SYMBOL,VARIABLE,LABELS,NAMES,SYMBOLS,VARIABLES
+Label, name, symbol, variable
 A label is a name in column 1. It means the address of its line, so you can
 jump there or load from there without counting bytes. A line without a label
 begins with a blank.
@@ -1251,8 +1252,8 @@ A line with * in column 1 is a comment too.
      LDA #1      ; and so is this text
      RTS
 More: docs/manual/language.md
-~DIRECTIVE,DIRECTIVES
-Directive
+~DIRECTIVE,CONSTANT,DIRECTIVES,CONSTANTS
+Directive, constant
 A directive is for the assembler, and is not an instruction: ORG sets the
 address, EQU gives a name a value, and DFB, DW, ASC and DS store bytes. a2lab
 help ORG explains one.
@@ -1263,6 +1264,12 @@ help ORG explains one.
      RTS
 Row 0 is !.
 More: docs/manual/language.md
+~LARGER LANGUAGE,EXPANSION,MACRO,LOCAL LABEL,MACROS,LOCAL LABELS
+Larger language, expansion, macro, local label
+a2lab also reads sources with local labels such as .LOOP, with * and / in
+numbers, and with macros. It turns them into a plain source, the expansion,
+which a2lab expand f.s prints. a2 reads plain sources only.
+More: docs/manual/larger-language.md
 ~REGISTER,REGISTERS
 Register
 The processor has three registers for your bytes: A for arithmetic, X and Y
@@ -1296,8 +1303,8 @@ PC, program counter
 PC is the address of the next instruction. A branch or a jump changes it.
 After a stop it says where the program stopped; FF69 is the normal end.
 More: docs/manual/machine.md
-~FLAG,P,STATUS,FLAGS
-Flag, P, status
+~FLAG,P,STATUS,STATUS REGISTER,FLAGS
+Flag, P, status, status register
 A flag is one bit that remembers something about a result: N (negative), V
 (overflow), Z (zero), C (carry), and D and I. P is the byte of all flags, with
 bits 5 and 4 always set. Branches test flags: BEQ branches if Z is set.
@@ -1305,8 +1312,8 @@ bits 5 and 4 always set. Branches test flags: BEQ branches if Z is set.
      RTS
 P is $32.
 More: docs/manual/machine.md
-~C,CARRY
-C, carry
+~C,CARRY,ADD,SUBTRACT
+C, carry, add, subtract
 The carry is the ninth bit of a sum: ADC adds C too, and sets C if the sum is
 above 255. So begin an addition with CLC and a subtraction with SEC. After a
 compare, C is set if the register was equal or greater.
@@ -1384,8 +1391,8 @@ JMP continues at its operand, always. It does not come back; JSR does.
     OVER RTS
 A is $00.
 More: docs/manual/instructions.md
-~LOOP,LOOPS
-Loop
+~LOOP,FOR,WHILE,LOOPS
+Loop, for, while
 A loop is a branch back to a label above it. Usually X or Y counts down, and
 BNE goes back until the count is 0.
      LDX #3
@@ -1396,8 +1403,8 @@ BNE goes back until the count is 0.
      RTS
 Row 0 is ***. A loop that never ends stops with LIMIT.
 More: docs/manual/language.md
-~SUBROUTINE,ROUTINE,FUNCTION,SUBROUTINES,ROUTINES,FUNCTIONS
-Subroutine, routine, function
+~SUBROUTINE,ROUTINE,FUNCTION,CALL,RETURN,SUBROUTINES,ROUTINES,FUNCTIONS
+Subroutine, routine, function, call, return
 A subroutine is a part of the program that you call with JSR and that ends
 with RTS. Then the program continues after the JSR. Write it after the RTS
 that ends your program.
@@ -1409,8 +1416,8 @@ that ends your program.
      RTS         ; back to the caller
 Row 0 is **.
 More: docs/manual/instructions.md
-~STACK,S,PUSH,PULL
-Stack, S, push, pull
+~STACK,S,STACK POINTER,PUSH,PULL
+Stack, S, stack pointer, push, pull
 The stack keeps bytes for later: the last one that was pushed is the first one
 that is pulled. PHA pushes A, and PLA pulls it. JSR pushes where to come back,
 and RTS pulls it. So pull all that you pushed before RTS. The stack is at
@@ -1472,8 +1479,8 @@ The operand is an address of two bytes, anywhere in memory.
      RTS
 A is $09.
 More: docs/manual/instructions.md
-~INDEXED
-Indexed
+~INDEXED,INDEX,TABLE,ARRAY,ARRAYS
+Indexed, index, table, array
 The register X or Y is added to the address. So one instruction in a loop can
 reach each byte of a table in turn.
      LDY #1
@@ -1540,8 +1547,8 @@ store the bytes yourself. --attr shows which are which.
      JMP $FE84   ; SETNORM, and the end
 Row 0 is A, and in memory it is $01.
 More: docs/manual/machine.md
-~KEYBOARD,KEY
-Keyboard, key
+~KEYBOARD,KEY,INPUT
+Keyboard, key, input
 $C000 gives the key, with bit 7 set while it waits. Any access of $C010 takes
 it. RDKEY ($FD0C) waits for a key and takes it. For a run, give the keys
 first, as in a2lab run --keys A f.s. With a2lab play f.s you type them while

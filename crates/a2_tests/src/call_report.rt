@@ -10,7 +10,7 @@ use strsim::generic_levenshtein;
 
 // The report if no name is missing.
 const NOT_VALID: &[u8] =
-    b"cannot call its routine; the source is not valid after the lines that call it";
+    b"cannot call its routine: the lines that call it begin at $BF00, and the source is not valid with them; keep $BF00 to $BFFF free";
 
 // Returns whether a program has a name.
 fn is_defined<A: Allocator + Copy>(program: &Program<A>, name: &[u8]) -> bool {
@@ -65,14 +65,14 @@ fn distance<A: Allocator + Copy>(alloc: A, name: &[u8], other: &[u8]) -> Result<
 }
 
 // Returns the name that is most similar to a missing one, or an empty one if none is similar enough. At most two letters may
-// differ, and fewer than the name has.
+// differ, and at most half of them.
 fn nearest<'a, A: Allocator + Copy>(
     alloc: A,
     names: &'a Names<A>,
     name: &[u8],
 ) -> Result<&'a [u8], AllocError> {
     let mut nearest: &[u8] = b"";
-    let mut least = name.len().min(3).saturating_add(1);
+    let mut least = (name.len() / 2).min(2) + 2;
     for index in 0..names.len() {
         if let Some((known, _)) = names.get_index(index) {
             let known = known.as_str().as_bytes();

@@ -8,11 +8,15 @@ use crate::requirements::{
 };
 use crate::rows::{RowKind, Rows, are_all, first_row, fits, marks_for, row_count};
 use crate::settings::{name_in, tight};
+use a2_machine::Cause;
 use a2_opcode::Mnemonic;
 use a2_page::Attribute;
 use a2_symbols::statement_at;
 use a2_text::{decimal, hex_pair, hex_word, is_blank};
 use std::alloc::{AllocError, Allocator};
+
+// What the marks of attributes mean.
+const MARKS: &[u8] = b"; . is normal, I is inverse, F is flashing";
 
 // Returns a row without the blanks at its end.
 fn trimmed(row: &[u8]) -> &[u8] {
@@ -103,7 +107,8 @@ fn report_attribute_rows<A: Allocator + Copy>(
         &[
             b"\", found \"",
             without_normal(marks, wanted.len()),
-            b"\"; . is normal, I is inverse, F is flashing",
+            b"\"",
+            MARKS,
         ],
     )
 }
@@ -186,7 +191,7 @@ fn report_shown<A: Allocator + Copy>(
     marks: &[u8],
 ) -> Result<(), AllocError> {
     append(text, &[name_of(attribute), b", found "])?;
-    append(text, &[marks])
+    append(text, &[marks, MARKS])
 }
 
 // Reports that only the attributes of a text in a row differ.
@@ -392,10 +397,14 @@ fn report_end<A: Allocator + Copy>(
     match statement_at(ending.program.statements(), pc) {
         Some(statement) => {
             let line = decimal(u64::from(statement.line));
-            append(text, &[b" in line ", line.as_slice()])
+            append(text, &[b" in line ", line.as_slice()])?;
         }
-        None => append(text, &[b" at $", &hex_word(pc)]),
+        None => append(text, &[b" at $", &hex_word(pc)])?,
     }
+    if ending.cause == Cause::Keys {
+        return append(text, &[b"; it waits for a key: add a line keys or keys-at"]);
+    }
+    Ok(())
 }
 
 /// Returns the report on the first of these lines, which the end of a run does not meet.

@@ -5,12 +5,15 @@ ghost use Rattle.a2_arguments.specs.Found.{found_of, text_given};
 ghost use Rattle.a2lab_reports.specs.Filmed.{FilmsInto};
 
 use a2_arguments::Arguments;
+use a2_asm::Program;
+use a2_explain::explain_stop;
 use a2_film::{FilmedRun, ScriptFault, Titles, Window, chapters_of, film_source};
 use a2_host::{Desk, Shelf};
 use a2_machine::Cause;
 use a2_run::{AssembledText, RunFault};
 use a2_stream::{Input, Output};
-use a2_symbols::report_stop;
+use a2_symbols::statement_at;
+use a2_text::{after_blanks, cut, decimal, split_word};
 use a2_timed_keys::Ended;
 use a2lab_commands::options::{FILM_FROM, FILM_LIMIT, PAGE, SCRIPT, STEPS, TITLE};
 use a2lab_commands::{
@@ -18,7 +21,7 @@ use a2lab_commands::{
     expanded_text_of, refuse_overwriting_input, report, settled, stop_status, text_of,
     timed_run_args,
 };
-use std::alloc::Global;
+use std::alloc::{AllocError, Global};
 
 // The most steps of a film without `--steps` and `--limit`.
 const USUAL_STEPS: u32 = 100_000;
@@ -142,7 +145,7 @@ fn report_early_stop<E: Output>(
         return;
     }
     // If this fails, there is no place left to report it.
-    let _ = report_stop(alloc, assembled, machine.regs().pc, cause, complaints);
+    let _ = explain_stop(alloc, assembled, ended, complaints);
 }
 
 // Runs a source, and writes the film of a part of the run to `page` or to the output. Returns the exit status.
@@ -165,6 +168,40 @@ fn film_window<'a, S, D: Desk, C, R, W: Output, E: Output>(
     report_early_stop(host.alloc, assembled, &ended, timed, &mut host.complaints);
     timed.report_untyped(ended.machine().steps(), &mut host.complaints);
     Ok(stop_status(cause))
+}
+
+// Returns the number of the line to whose address a label leads, counted from 1.
+fn line_of_label(program: &Program<Global>, label: &[u8]) -> Option<u16> {
+    let Ok(name) = str::from_utf8(label) else {
+        return None;
+    };
+    let address = program.name(name)?;
+    let statement = statement_at(program.statements(), address)?;
+    Some(statement.line)
+}
+
+// Returns a script with the number of its line in place of each label of the source after `line`.
+fn with_numbers(
+    alloc: Global,
+    program: &Program<Global>,
+    script: &[u8],
+) -> Result<Vec<u8>, AllocError> {
+    let mut text = Vec::new(alloc);
+    let lines = cut(alloc, script)?;
+    for line in lines.as_slice() {
+        let (word, rest) = split_word(*line);
+        let (label, following) = split_word(after_blanks(rest));
+        match line_of_label(program, label) {
+            Some(number) if word == b"line".as_slice() => {
+                text.extend_from_slice(b"line ")?;
+                text.extend_from_slice(decimal(u64::from(number)).as_slice())?;
+                text.extend_from_slice(following)?;
+            }
+            _ => text.extend_from_slice(*line)?,
+        }
+        text.extend_from_slice(b"\n")?;
+    }
+    Ok(text)
 }
 
 /// Writes the film of a run. The exit status is 1 if the source or the script has an error, and 3 if the run stopped for another cause
@@ -195,6 +232,8 @@ pub fn film_of<'a, S: Shelf, D: Desk, C, R: Input, W: Output, E: Output>(
         Some(_) => text_of(alloc, asked.script, &mut host.shelf, &mut host.input)?,
         None => Vec::new(alloc),
     };
+    let assembled = assembled_text(alloc, file, text.as_slice(), &mut host.complaints)?;
+    let script = with_numbers(alloc, assembled.program(), script.as_slice())?;
     let chapters = match chapters_of(alloc, script.as_slice()) {
         Ok(chapters) => chapters,
         Err(ScriptFault::Line(line)) => {
@@ -205,7 +244,6 @@ pub fn film_of<'a, S: Shelf, D: Desk, C, R: Input, W: Output, E: Output>(
         }
         Err(ScriptFault::Memory) => return Err(Refusal::Fault(RunFault::Memory)),
     };
-    let assembled = assembled_text(alloc, file, text.as_slice(), &mut host.complaints)?;
     let titles = Titles {
         title: title_of(given.arguments, file).as_bytes(),
         chapters: chapters.as_slice(),

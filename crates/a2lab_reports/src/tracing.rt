@@ -5,7 +5,10 @@ ghost use Rattle.std.specs.Prelude.{◌≤◌, IfOk};
 use crate::spans::span_in;
 use a2_arguments::{Arguments, Given};
 use a2_asm::Program;
+use a2_explain::explain_stop;
 use a2_host::Shelf;
+use a2_machine::Cause;
+use a2_run::AssembledText;
 use a2_stream::{Input, Output};
 use a2_symbols::Span;
 use a2_trace::{Choice, trace_calls, trace_source};
@@ -52,17 +55,22 @@ fn refuse_beside_calls<'a>(options: &[Given<'a>]) -> Result<(), Refusal<'a>> {
 
 // Runs a source, and prints the chosen steps of the run, or its tree of calls if no steps are chosen. Returns the exit status.
 fn trace<'a, S, D, C, R, W: Output, E: Output>(
-    program: &Program<Global>,
+    assembled: &AssembledText<'_>,
     timed: &TimedRunArgs<'a>,
     choice: Option<Choice>,
     host: &mut Host<S, D, C, R, W, E>,
 ) -> Result<u8, Refusal<'a>>
     ensures { IfOk result (λ status. status ≤ 5) }
 {
-    let ended = ended_of(host.alloc, program, timed, &mut host.complaints)?;
+    let ended = ended_of(host.alloc, assembled.program(), timed, &mut host.complaints)?;
     match choice {
         Some(choice) => trace_source(host.alloc, &ended, &choice, &mut host.output)?,
         None => trace_calls(host.alloc, &ended, &mut host.output)?,
+    }
+    // (a trace is often limited on purpose)
+    if stop_status(ended.cause()) != 0 && ended.cause() != Cause::Limit {
+        // If this fails, there is no place left to report it.
+        let _ = explain_stop(host.alloc, assembled, &ended, &mut host.complaints);
     }
     timed.report_untyped(ended.machine().steps(), &mut host.complaints);
     Ok(stop_status(ended.cause()))
@@ -95,5 +103,5 @@ pub fn trace_of<'a, S: Shelf, D, C, R: Input, W: Output, E: Output>(
     } else {
         Some(choice_of(assembled.program(), given.arguments)?)
     };
-    trace(assembled.program(), &timed, choice, host)
+    trace(&assembled, &timed, choice, host)
 }

@@ -4,37 +4,39 @@ use crate::warnings::{Warning, WarningKind};
 use a2_stream::{Output, WriteFault, put, put_all};
 use a2_text::decimal;
 
-// Returns the sentence for a kind of warning: what the line does and what to write instead. The line is written after it.
-fn sentence_of(kind: WarningKind) -> &'static [u8] {
+/// Returns the sentence for a kind of warning: what the line does, and what to write instead.
+pub fn sentence_of(kind: WarningKind) -> &'static [u8] {
     match kind {
         WarningKind::Place =>
-            b"a line with * in column 1 is a comment; to set the address, write ORG after a blank: ",
-        WarningKind::Operation => b"text in column 1 is a label; put a blank before an operation: ",
+            b"a line with * in column 1 is a comment; to set the address, write ORG after a blank",
+        WarningKind::Operation => b"text in column 1 is a label; put a blank before an operation",
         WarningKind::Unwritten =>
-            b"this reads a byte that nothing stores; for the number itself, write # before it: ",
-        WarningKind::RunsOut => b"no instruction follows this one; end with RTS or JMP: ",
-        WarningKind::Circle => b"this jumps to itself and never ends; RTS ends a run: ",
+            b"this reads a byte that nothing stores; for the number itself, write # before it",
+        WarningKind::RunsOut => b"no instruction follows this one; end with RTS or JMP",
+        WarningKind::Circle => b"this jumps to itself and never ends; RTS ends a run",
         WarningKind::Plain =>
-            b"a character in ' ' is shown inverse or flashing; in \" \" it is shown normally: ",
+            b"a character in ' ' is shown inverse or flashing; in \" \" it is shown normally",
         WarningKind::Decimal =>
-            b"this number is decimal; for a hexadecimal address, write $ before it: ",
+            b"this number is decimal; for a hexadecimal address, write $ before it",
         WarningKind::Unreached =>
-            b"this line is never executed; give it a label to jump to, or remove it: ",
+            b"this line is never executed; give it a label to jump to, or remove it",
         WarningKind::Carry =>
-            b"no line before this one sets the carry; write CLC before ADC, or SEC before SBC: ",
+            b"no line before this one sets the carry; write CLC before ADC, or SEC before SBC",
         WarningKind::Rom =>
-            b"this stores in ROM, which does not change; to call a routine there, write JSR: ",
+            b"this stores in ROM, which does not change; to call a routine there, write JSR",
         WarningKind::Astray =>
-            b"no instruction begins at the target of this branch; write a label as its operand: ",
+            b"no instruction begins at the target of this branch; write a label as its operand",
         WarningKind::PlainText =>
-            b"a text in ' ' is shown inverse or flashing; in \" \" it is shown normally: ",
+            b"a text in ' ' is shown inverse or flashing; in \" \" it is shown normally",
         WarningKind::Small =>
-            b"the screen shows small letters as other characters; write capital letters: ",
+            b"the screen shows small letters as other characters; write capital letters",
         WarningKind::Entered =>
-            b"the program runs on from the line above into this subroutine; write RTS before it: ",
+            b"the program runs on from the line above into this subroutine; write RTS before it",
         WarningKind::Compared =>
-            b"this uses the carry from a comparison; write CLC before ADC, or SEC before SBC: ",
-        WarningKind::Cleared => b"after CLC, SBC subtracts one more; write SEC instead of CLC: ",
+            b"this uses the carry from a comparison; write CLC before ADC, or SEC before SBC",
+        WarningKind::Cleared => b"after CLC, SBC subtracts one more; write SEC instead of CLC",
+        WarningKind::Kept =>
+            b"on a real machine the service above changes the flags; test them before the call",
     }
 }
 
@@ -48,7 +50,7 @@ fn put_warning<W: Output>(
 ) -> Result<(), WriteFault> {
     put_all(&[name.as_bytes(), b":"], writer)?;
     put(decimal(line as u64).as_slice(), writer)?;
-    put_all(&[b": warning: ", what, text, b"\n"], writer)
+    put_all(&[b": warning: ", what, b": ", text, b"\n"], writer)
 }
 
 /// Writes `warnings` of a source with this `name` and these lines, `texts`. Each is one line of output: the name, the number of
