@@ -92,7 +92,7 @@ fn changes_advice(is_first: bool, here: &[u8]) -> Option<&'static str> {
         _ if !is_first => Some("write a comma between two things that may change"),
         Piece::Word(word) if word == b"word".as_slice() => Some(WORD_CHANGES),
         Piece::Word(word) if word == b"none".as_slice() => Some(
-            "write nothing if nothing may change",
+            "write the word nothing if nothing may change",
         ),
         Piece::Word(_) => None,
         Piece::Place(_) => Some(LONG_PLACE),

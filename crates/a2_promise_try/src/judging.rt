@@ -139,6 +139,9 @@ fn found_in<'a>(
 pub struct Asked<'a> {
     pub trials: Trials,
     pub form: ReportForm,
+    /// The label of the only routine whose promise is tried, in capital or small letters. If it is `None`, all promises are tried, and that of
+    /// the text's own run.
+    pub only: Option<&'a str>,
     /// The cases that [`run_cases`] returns, with the sessions that they replay.
     pub runs: &'a [Case<'a, Global>],
 }
@@ -183,6 +186,7 @@ struct Routines<'a> {
     found: &'a [Found<'a>],
     trials: Trials,
     form: ReportForm,
+    only: Option<&'a str>,
 }
 
 // Records the verdict on a promise, and the failure if it is the first one with a state.
@@ -347,7 +351,19 @@ fn warn_of_names<W: Output>(routines: &Routines, output: &mut W) -> Result<(), W
     Ok(())
 }
 
-// Judges the promises of routines.
+// Returns whether the promise of a routine is asked for.
+fn is_asked(only: Option<&str>, one: &Found) -> bool {
+    let Some(only) = only else {
+        return true;
+    };
+    let name = match one {
+        Found::Refused(_, name) => *name,
+        Found::Promise(promise) => promise.name,
+    };
+    name.eq_ignore_ascii_case(only.as_bytes())
+}
+
+// Judges the promises of routines. If only one is asked for, nothing is said about other lines.
 fn judge_routines<W: Output>(
     routines: &Routines,
     judgement: &mut Judgement,
@@ -355,14 +371,30 @@ fn judge_routines<W: Output>(
 ) -> Result<(), RunFault>
     ensures { IsSound judgement.old → OnOk result (IsSound judgement.new) }
 {
-    if let ReportForm::Text = routines.form {
-        warn_of_names(routines, output)?;
+    if routines.only.is_none() {
+        if let ReportForm::Text = routines.form {
+            warn_of_names(routines, output)?;
+        }
+        refuse_others(routines, judgement, output)?;
     }
-    refuse_others(routines, judgement, output)?;
     for one in routines.found {
-        judge_one(routines, one, judgement, output)?;
+        if is_asked(routines.only, one) {
+            judge_one(routines, one, judgement, output)?;
+        }
     }
     Ok(())
+}
+
+// Returns the lines about the text's own run, or none of them if only a routine is asked for.
+fn asked_lines<'l, 'a>(
+    only: Option<&str>,
+    lines: &'l [NumberedLine<'a>],
+) -> &'l [NumberedLine<'a>] {
+    if only.is_some() {
+        let (none, _) = lines.split_at(0);
+        return none;
+    }
+    lines
 }
 
 // Judges the promise of a text's own run.
@@ -444,13 +476,14 @@ pub fn judge_all<W: Output>(
         found: found.as_slice(),
         trials: asked.trials,
         form: asked.form,
+        only: asked.only,
     };
     if let ReportForm::Json = asked.form {
         put_program(program, source, output)?;
     }
     judge_routines(&routines, &mut judgement, output)?;
     let run = Run {
-        lines: parts.run.as_slice(),
+        lines: asked_lines(asked.only, parts.run.as_slice()),
         cases: asked.runs,
     };
     match asked.form {

@@ -41,6 +41,7 @@ pub enum Message {
     TestPageOverwrites,
     PageNotWritten,
     NoPromise,
+    NoPromiseOf,
     NoFailure,
     FilmOverwrites,
     ObjectOverwrites,
@@ -143,7 +144,7 @@ fn sentence(message: Message) -> &'static str {
         Message::CallsWithOption =>
             "trace: --calls cannot be combined with @, because --calls shows the routines of the whole run; leave one of them out",
         Message::ScriptLine =>
-            "film: @, line @: not a chapter; write `120 TEXT` or `line 12 TEXT` (a2lab help film)",
+            "film: @, line @: not a chapter; write `120 TEXT`, `line 12 TEXT` or `line LOOP TEXT` (a2lab help film)",
         Message::PageOverwrites => "film: the page would overwrite @; give -o another name",
         Message::SourceAsTests =>
             "test: @ looks like a source; the test file comes first, as in a2lab test WANT @",
@@ -155,6 +156,8 @@ fn sentence(message: Message) -> &'static str {
             "test: cannot write the page @; check that its folder exists, and its permissions",
         Message::NoPromise =>
             "promise: @ has no promises; write lines such as `;: ensures A = old A + 1` before a label (a2lab help promise)",
+        Message::NoPromiseOf =>
+            "promise: @ has no promise before the label @; without --only, all its promises are tried",
         Message::NoFailure => "promise: no routine failed, so the film @ was not written",
         Message::FilmOverwrites => "promise: the film would overwrite @; give --film another name",
         Message::ObjectOverwrites => "object: the output would overwrite @; give it another name",

@@ -165,7 +165,7 @@ pub const FILM_LIMIT: OptionRow = row!(Number "--limit" "N" 0 to 1_000_000 or ""
     "Stops the run after N steps; --from and --steps film a part of a longer run.");
 
 pub const SCRIPT: OptionRow = row!(Text "--script" "S" or "",
-    "Takes the chapters of a lesson from the file S. The line `120 TEXT` begins a chapter at step 120; `line 12 TEXT` begins one when line 12 first comes next.");
+    "Takes the chapters of a lesson from the file S. The line `120 TEXT` begins a chapter at step 120; `line 12 TEXT` begins one when line 12 first comes next, `line LOOP TEXT` that of the label LOOP.");
 
 // Options of `fmt`.
 
@@ -178,7 +178,7 @@ pub const WRITE: OptionRow = row!(Flag "-w",
 // Options of `import`.
 
 pub const DIALECT: OptionRow =
-    row!(OneOf "--from" "WHAT" ["auto", "sc", "lisa", "merlin", "edasm", "ca65", "listing"] or "auto",
+    row!(OneOf "--from" "WHAT" ["auto", "sc", "lisa", "merlin", "edasm", "ca65", "64tass", "acme", "dasm", "easy6502", "listing"] or "auto",
     "Says what F is: a source for this assembler, or a listing of the Monitor; auto finds it out from the text.");
 
 // Options of `source`.
@@ -247,6 +247,9 @@ pub const PAGES: OptionRow = row!(Text "--pages" "FOLDER" or "",
 
 pub const STATES: OptionRow = row!(Number "--states" "N" 1 to 100_000_000 or "",
     "Tries all states if there are at most N, and N of the states otherwise. The default is all if there are at most 16777216, and 1000000 otherwise.");
+
+pub const ONLY_PROMISE: OptionRow = row!(Text "--only" "NAME" or "",
+    "Tries only the promise before the label NAME.");
 
 pub const FILM: OptionRow = row!(Text "--film" "PAGE" or "",
     "Writes to the file PAGE the film of the first run that fails.");
@@ -345,7 +348,7 @@ pub static DIFF_OPTIONS: [OptionRow; 2] = [FROM, AT];
 
 pub static TEST_OPTIONS: [OptionRow; 2] = [TEST_FORMAT, PAGES];
 
-pub static PROMISE_OPTIONS: [OptionRow; 3] = [STATES, FILM, PROMISE_JSON];
+pub static PROMISE_OPTIONS: [OptionRow; 4] = [STATES, ONLY_PROMISE, FILM, PROMISE_JSON];
 
 pub static MON_OPTIONS: [OptionRow; 1] = [MONITOR_PLAIN];
 

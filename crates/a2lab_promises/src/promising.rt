@@ -7,7 +7,7 @@ use a2_arguments::Arguments;
 use a2_host::{Desk, Shelf};
 use a2_promise_try::{Asked, Judgement, ReportForm, Trials, judge_all, run_cases};
 use a2_stream::{Input, Output};
-use a2lab_commands::options::{FILM, PROMISE_JSON, STATES};
+use a2lab_commands::options::{FILM, ONLY_PROMISE, PROMISE_JSON, STATES};
 use a2lab_commands::{
     CommandArgs, Host, Message, Refusal, Value, assembled_text, expanded_text_of,
     refuse_overwriting_input, report,
@@ -20,10 +20,11 @@ const TRIALS: Trials = Trials {
     some: 1_000_000,
 };
 
-// The options: how many states are tried, the file to which a film is written, and the form of the report.
+// The options: how many states are tried, of which routine, the file to which a film is written, and the form of the report.
 #[derive(Clone, Copy)]
 struct PromiseArgs<'a> {
     trials: Trials,
+    only: Option<&'a str>,
     page: Option<&'a str>,
     form: ReportForm,
 }
@@ -44,17 +45,34 @@ fn promise_args<'a>(arguments: &Arguments<'a>) -> PromiseArgs<'a> {
     };
     PromiseArgs {
         trials,
+        only: arguments.text(&ONLY_PROMISE),
         page: arguments.text(&FILM),
         form,
     }
 }
 
+// Reports that a source has no promises, or none of the routine that is asked for.
+fn report_no_promise<E: Output>(file: &str, only: Option<&str>, complaints: &mut E) {
+    match only {
+        Some(name) => {
+            let values = [Value::Text(file), Value::Text(name)];
+            report(Message::NoPromiseOf, &values, complaints)
+        }
+        None => report(Message::NoPromise, &[Value::Text(file)], complaints),
+    }
+}
+
 // Returns the exit status, and reports a source without promises.
-fn status_of<E: Output>(file: &str, judgement: &Judgement, complaints: &mut E) -> u8
+fn status_of<E: Output>(
+    file: &str,
+    only: Option<&str>,
+    judgement: &Judgement,
+    complaints: &mut E,
+) -> u8
     ensures { result ≤ 6 }
 {
     if judgement.promises == 0 {
-        report(Message::NoPromise, &[Value::Text(file)], complaints);
+        report_no_promise(file, only, complaints);
         1
     } else if judgement.is_any_refused {
         1
@@ -95,10 +113,11 @@ pub fn promise_of<'a, S: Shelf, D: Desk, C, R: Input, W: Output, E: Output>(
     let asked = Asked {
         trials: wish.trials,
         form: wish.form,
+        only: wish.only,
         runs: runs.as_slice(),
     };
     let judgement = judge_all(alloc, &assembled, asked, &mut host.output)?;
     let (title, first) = (name.as_bytes(), judgement.first.as_ref());
     film_first(&assembled, title, first, wish.page, host)?;
-    Ok(status_of(name, &judgement, &mut host.complaints))
+    Ok(status_of(name, wish.only, &judgement, &mut host.complaints))
 }
