@@ -23,6 +23,8 @@ CLANG = [KIT / "toolchain/bin/clang", f"--target={TARGET}", "--no-default-config
 # A switch as the module defines it.
 DEFINED = re.compile(r'(?ms)^define [^@\n]*?(\S+) @"[^"]*::mutant_is_on"\(i32[^)]*\)[^{\n]*\{.*?^\}')
 CALLED = re.compile(r'@"[^"]*::mutant_is_on"')
+# What is beside the bodies, but not in the program.
+BESIDE = ("verdicts", "README.md")
 
 
 def script(path):
@@ -83,7 +85,7 @@ def sum_of_sources():
     """Returns a sum of everything that the program is built from."""
     found = hashlib.sha256((KIT / "KIT-ID").read_bytes())
     for folder in (HERE, *sorted(TOP.glob("crates/*/src"))):
-        for file in sorted(it for it in folder.rglob("*") if it.suffix != ".pyc" and it.is_file()):
+        for file in sorted(it for it in folder.rglob("*") if it.suffix != ".pyc" and it.name not in BESIDE and it.is_file()):
             found.update(f"{file.relative_to(TOP)}\n".encode() + file.read_bytes())
     return found.hexdigest()
 
