@@ -2,8 +2,8 @@
 use Rattle.std.specs.Prelude.{◌≡◌, ◌⊎◌, ℕ, zero, suc, List, Some}
 use Rattle.a2_debugger.specs.Inspections.{Inspection, IsDone, IsAnswered, moved_to}
 use Rattle.a2_debugger.specs.declared.inspector_command.InspectorCommand.{InspectorCommand}
-use Rattle.a2_dap.specs.declared.request.Command.{Command}
-use Rattle.a2_dap.specs.declared.request.Command.TheVariants as commands
+use Rattle.a2_dap_messages.specs.declared.request.Command.{Command}
+use Rattle.a2_dap_messages.specs.declared.request.Command.TheVariants as commands
 
 -- one call of the debugger: a command, a line, or the way back to the start
 abbrev pub IsCalled : Inspection → Inspection → Type 0

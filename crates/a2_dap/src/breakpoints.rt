@@ -1,9 +1,8 @@
 //! Requests that set breakpoints.
 
 use crate::marking::{Mark, MarkKind};
-use crate::request::{Request, items_in, number_in, text_in};
-use crate::texts::joined;
 use a2_asm::{Program, Statement};
+use a2_dap_messages::{Request, items_in, joined, number_in, text_in};
 use a2_debugger::{Break, break_in, watchable};
 use a2_symbols::{Span, instruction_on, place_of, span_of};
 use a2_text::{after_blanks, decimal, hex_word, number_in as digits_in};

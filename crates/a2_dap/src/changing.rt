@@ -6,10 +6,11 @@ ghost use Rattle.a2_dap.specs.Requests.{Reaches};
 
 use crate::breakpoints::{Place, next_instruction, reference_in, shown_line};
 use crate::memory::address_in;
-use crate::request::{items_in, number_in, text_in};
-use crate::texts::{joined, reference_text};
-use crate::variables::{FLAGS, MONITOR, NAMES, REGISTERS, location_named, variables};
 use a2_asm::Program;
+use a2_dap_messages::{
+    FLAGS, MONITOR, NAMES, REGISTERS, items_in, joined, location_named, number_in, reference_text,
+    text_in, variables,
+};
 use a2_debugger::{
     Inspector, InspectorCommand, Outcome, Setting, Subject, flag_of, register_of, setting_by,
 };

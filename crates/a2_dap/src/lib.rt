@@ -9,16 +9,9 @@ mod evaluating;
 mod marking;
 mod memory;
 mod moving;
-mod opening;
-mod replies;
 mod reports;
-mod request;
 mod session;
 mod stacks;
-mod texts;
-mod variables;
 
-pub use opening::{Launch, Opened, Opening};
-pub use replies::Replies;
-pub use request::{Request, RequestFault};
+pub use a2_dap_messages::{Launch, Opened, Opening, Replies, Request, RequestFault};
 pub use session::{Next, Session, Start};

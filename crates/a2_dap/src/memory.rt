@@ -1,9 +1,8 @@
 //! Memory and machine code for an editor.
 
 use crate::breakpoints::{Place, reference_in, shown_line, with_offset};
-use crate::request::{number_in, text_in};
-use crate::texts::{joined, reference_text, text_of};
 use a2_asm::Statement;
+use a2_dap_messages::{joined, number_in, reference_text, text_in, text_of};
 use a2_machine::Machine;
 use a2_opcode::list_line;
 use a2_symbols::statement_at;

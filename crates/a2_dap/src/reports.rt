@@ -3,8 +3,7 @@
 ghost use Rattle.a2_dap.specs.Requests.{Travels};
 
 use crate::moving::{Stop, last_address};
-use crate::replies::Replies;
-use crate::texts::{joined, text_of};
+use a2_dap_messages::{Replies, joined, text_of};
 use a2_debugger::Inspector;
 use a2_machine::{Cause, Machine, write_cause, write_registers};
 use a2_page::print;
@@ -164,6 +163,21 @@ pub fn report_stop(
     let text = text_of(alloc, standing.told)?;
     replies.print("console", text.as_str())?;
     notify(alloc, inspector, &standing, changer, replies)
+}
+
+/// Returns the cause of a stop at the end of a run.
+pub fn end_of(stop: Stop) -> Option<Cause> {
+    match stop {
+        Stop::Ended(cause) => Some(cause),
+        _ => None,
+    }
+}
+
+/// Returns what a cause means.
+pub fn exception(alloc: Global, cause: Cause) -> Result<Value, AllocError> {
+    let name = std::str::from_utf8(cause.name()).unwrap_or("");
+    let why = std::str::from_utf8(cause.sentence()).unwrap_or("");
+    json!(in alloc; {"exceptionId": name, "description": why, "breakMode": "always"})
 }
 
 /// Returns the body of the only thread.

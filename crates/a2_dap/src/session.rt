@@ -15,12 +15,12 @@ use crate::memory::{instructions, memory};
 use crate::moving::{
     Journey, Stop, go_back, go_on, step_once, step_once_back, step_out, step_over,
 };
-use crate::replies::Replies;
-use crate::reports::{Standing, report_stop, threads};
-use crate::request::{Command, Request, items_in, number_in, text_in};
+use crate::reports::{Standing, end_of, exception, report_stop, threads};
 use crate::stacks::{file_name, stack};
-use crate::texts::text_of;
-use crate::variables::{scopes, variables};
+use a2_dap_messages::{
+    Command, Replies, Request, items_in, number_in, scopes, text_in, text_of, usual_causes,
+    variables,
+};
 use a2_debugger::{Inspector, Outcome, Setting};
 use a2_machine::{Cause, Machine};
 use a2_stream::Kept;
@@ -50,6 +50,8 @@ pub struct Session<'a> {
     watches: Vec<Span>,
     // The causes at which the run stops in place of ending.
     filters: Vec<Cause>,
+    // Why the run ended, if it stopped last at its end.
+    end: Option<Cause>,
     // The number of the next breakpoint.
     next_id: u64,
     first_line: u64,
@@ -68,6 +70,7 @@ impl<'a> Drop for Session<'a> {
             marks: _,
             watches: _,
             filters: _,
+            end: _,
             next_id: _,
             first_line: _,
             most: _,
@@ -269,7 +272,8 @@ impl<'a> Session<'a> {
             path: String::from_str(alloc, start.path)?,
             marks: Vec::new(alloc),
             watches: Vec::new(alloc),
-            filters: Vec::new(alloc),
+            filters: usual_causes(alloc)?,
+            end: None,
             next_id: 1,
             first_line: start.first_line,
             most: u64::from(start.most),
@@ -301,6 +305,7 @@ impl<'a> Session<'a> {
             told: Kept::new(self.alloc),
         };
         let stop = move_run(&mut self.inspector, &mut journey, command);
+        self.end = end_of(stop);
         let standing = Standing {
             stop,
             filters: self.filters.as_slice(),
@@ -313,6 +318,7 @@ impl<'a> Session<'a> {
     fn report(&mut self, stop: Stop, replies: &mut Replies) -> Result<(), AllocError>
         ensures { Travels self.old.inspector self.new.inspector }
     {
+        self.end = end_of(stop);
         let standing = Standing {
             stop,
             filters: self.filters.as_slice(),
@@ -496,6 +502,10 @@ impl<'a> Session<'a> {
             Command::DataBreakpointInfo => Some(watch_info(alloc, place.program, request)?),
             Command::Pause => Some(json!(in alloc; {})?),
             Command::GotoTargets => targets(alloc, &place, arguments)?,
+            Command::ExceptionInfo => match self.end {
+                Some(cause) => Some(exception(alloc, cause)?),
+                None => return replies.refuse(request, "the run is not at its end"),
+            },
             _ => return replies.refuse(request, "this request is not supported here"),
         };
         self.reply(answer, request, replies)

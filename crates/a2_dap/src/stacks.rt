@@ -1,7 +1,7 @@
 //! The routines that a run is in.
 
 use crate::breakpoints::{Place, shown_line};
-use crate::texts::{address_text, reference_text, text_of};
+use a2_dap_messages::{address_text, reference_text, text_of};
 use a2_machine::Machine;
 use a2_routines::Entry;
 use a2_symbols::{name_of, statement_at};

@@ -3,11 +3,11 @@
 ghost use Rattle.std.specs.Prelude.{◌≡◌, ◌≢◌, ◌++◌, map, Ok, Err, IfOk, IfErr};
 ghost use Rattle.std.specs.List.{flat_map, list_all};
 ghost use Rattle.a2_hex.specs.Images.{held};
-ghost use Rattle.a2_import.specs.Listing.{listed};
+ghost use Rattle.a2_monitor_listing.specs.Listing.{listed};
 ghost use Rattle.a2_disassembly.specs.Dump as dump;
 
 use a2_hex::{HexFault, Image, load_lines};
-use a2_import::object_lines;
+use a2_monitor_listing::object_lines;
 use a2_text::{cut, front_len, is_blank, number_in};
 use std::alloc::{AllocError, Allocator};
 

@@ -2,7 +2,7 @@
 
 ghost use Rattle.std.specs.Prelude.{IfOk};
 ghost use Rattle.a2_hex.specs.Images.{held};
-ghost use Rattle.a2_import.specs.Imported.{AssemblesTo};
+ghost use Rattle.a2_monitor_listing.specs.Imported.{AssemblesTo};
 
 use crate::draft::Draft;
 use crate::fault::{SourceFault, fault_of};
@@ -15,7 +15,7 @@ use crate::request::Request;
 use crate::routines::{Call, calls_of, put_routine};
 use crate::statements::{is_last, put_statement};
 use a2_hex::{Image, RAM_END};
-use a2_import::assembles_to;
+use a2_monitor_listing::assembles_to;
 use a2_text::hex_word;
 use std::alloc::{AllocError, Allocator};
 

@@ -1,3 +1,2 @@
-pub mod Listing
-pub mod Imported
+pub mod Plain
 pub mod Marks

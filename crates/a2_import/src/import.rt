@@ -1,7 +1,7 @@
 //! Importing a source of another assembler.
 
 ghost use Rattle.std.specs.Prelude.{◌≡◌, ◌↔◌, IsTrue, IfOk};
-ghost use Rattle.a2_import.specs.Imported.{IsSomeSource};
+ghost use Rattle.a2_import.specs.Plain.{IsSomeSource};
 ghost use Rattle.a2_import.specs.Marks.{is_marked};
 
 use crate::comparison::{Difference, differences_of};

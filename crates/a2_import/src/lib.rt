@@ -1,4 +1,4 @@
-//! Imports sources of other assemblers, and listings of the Monitor, as sources of this language.
+//! Imports sources of other assemblers as sources of this language.
 //!
 //! CALLING.md shows how to call it.
 #![tactic(auto)]
@@ -12,9 +12,7 @@ mod expression;
 mod fault;
 mod import;
 mod kind;
-mod listing;
 mod names;
-mod object;
 mod operand;
 mod operator;
 mod outcome;
@@ -22,9 +20,7 @@ mod parts;
 mod pieces;
 mod print;
 mod reading;
-mod row;
 mod rules;
-mod same;
 mod scan;
 mod statement;
 mod token;
@@ -32,8 +28,6 @@ mod value;
 
 pub use comparison::Difference;
 pub use dialect::{Dialect, Old};
-pub use fault::{ImportFault, ListingFault};
+pub use fault::ImportFault;
 pub use import::{Imported, Note, NoteKind, import_source};
 pub use kind::guess;
-pub use listing::{assembles_to, import_listing};
-pub use object::object_lines;

@@ -2,7 +2,7 @@
 
 ghost use Rattle.std.specs.Prelude.{◌≡◌, ◌↔◌, IsTrue, IfOk, map};
 ghost use Rattle.std.specs.List.{list_any};
-ghost use Rattle.a2_import.specs.Imported.{IsSomeSource};
+ghost use Rattle.a2_import.specs.Plain.{IsSomeSource};
 ghost use Rattle.a2_import.specs.Marks as marks;
 
 use a2_syntax::{Fault, parse};

@@ -7,13 +7,13 @@ use a2_dap::{Launch, Next, Opened, Opening, Replies, Request, RequestFault, Sess
 use a2_debugger::Inspector;
 use a2_host::Shelf;
 use a2_packets::{PacketFault, put_packet, read_packet};
+use a2_replay::{bring, by_steps};
 use a2_run::{AssembledText, RunArgs, RunFault, read_text};
 use a2_stream::{Input, Output, WriteFault};
 use a2_timed_keys::{Record, Typed, record_of};
 use a2lab_commands::{
     CommandArgs, Host, INPUT, Message, Refusal, Value, loaded_text, report, report_fault,
 };
-use a2lab_sessions::{bring, by_steps};
 use serde_json::json;
 use std::alloc::{AllocError, Global};
 

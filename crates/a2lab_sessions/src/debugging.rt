@@ -3,12 +3,12 @@
 ghost use Rattle.std.specs.Prelude.{◌≤◌, IfOk};
 
 use crate::lines::{Lines, Prompt, columns_of, talked};
-use crate::turning::bring;
 use a2_arguments::Arguments;
 use a2_bus::Keys;
 use a2_debugger::Inspector;
 use a2_debugger_panes::{LEAST_COLUMNS, LEAST_ROWS, Panes, Wall};
 use a2_host::Shelf;
+use a2_replay::{bring, by_steps};
 use a2_run::{AssembledText, RunFault};
 use a2_stream::{Input, Output};
 use a2_timed_keys::{Strokes, Typed, TypedFault};
@@ -18,7 +18,7 @@ use a2lab_commands::{
     first_named, is_input, record_in, report_untyped, report_write, run_args, strokes_of,
     typed_refusal,
 };
-use std::alloc::{AllocError, Global};
+use std::alloc::Global;
 use std::cell::Cell;
 
 /// How many copies of the machine are kept without `--keep`: about 64 MB of them.
@@ -132,16 +132,6 @@ fn go_to_end<'a, S: Shelf, D, C, R, W, E: Output>(
     } else {
         Err(Refusal::of(Message::SessionNotReached, name))
     }
-}
-
-/// Returns keys in the order of their steps. Fails only if there is not enough memory.
-pub fn by_steps(alloc: Global, strokes: &Strokes) -> Result<Vec<Typed>, AllocError> {
-    let mut log = Vec::new(alloc);
-    for typed in strokes.as_slice() {
-        log.push(*typed)?;
-    }
-    log.as_mut_slice().sort_by_key(alloc, |typed| typed.steps)?;
-    Ok(log)
 }
 
 // Types the keys of a step, if the run goes that far. Returns whether it does.

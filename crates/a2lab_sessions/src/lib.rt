@@ -11,7 +11,6 @@ mod play;
 mod terminal;
 mod turning;
 
-pub use debugging::{by_steps, debug_of};
+pub use debugging::debug_of;
 pub use play::play_of;
 pub use terminal::mon_of;
-pub use turning::bring;

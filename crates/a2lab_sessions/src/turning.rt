@@ -8,9 +8,9 @@ use a2_bus::Keys;
 use a2_debugger::Inspector;
 use a2_debugger_panes::Panes;
 use a2_play::{Player, Session};
+use a2_replay::bring;
 use a2_run::{AssembledText, RunArgs, RunFault};
 use a2_stream::{Input, Output, ReadFault};
-use a2_timed_keys::Typed;
 use a2lab_commands::{Host, Terminal};
 use std::alloc::Global;
 
@@ -58,16 +58,6 @@ impl<R: Input> Input for Patient<'_, R> {
             }
         }
     }
-}
-
-/// Takes the debugger to a step of a session with the keys typed on the way, and returns whether it can go that far.
-pub fn bring(inspector: &mut Inspector<'_>, log: &[Typed], steps: u64) -> bool {
-    for typed in log {
-        if !inspector.replay_to(typed.steps) || inspector.type_keys(Keys::one(typed.key)).is_err() {
-            return false;
-        }
-    }
-    inspector.replay_to(steps)
 }
 
 // Returns the debugger at the step of a session's machine, with the keys typed so far, or `None` if it cannot go that far.

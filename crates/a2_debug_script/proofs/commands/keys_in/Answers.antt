@@ -2,7 +2,7 @@ use Rattle.std.proofs.Common.{ℕ, List, drop, subst, ap}
 use Rattle.a2_bus.specs.KeyText.{SpellsKeys}
 use Rattle.a2_debug_script.specs.declared.commands.Verb.TheVariants.{TypeKeys}
 use Rattle.a2_debug_script.proofs.Saying.{lacking}
-use Rattle.a2_debug_script.proofs.Spelling.{spelled-text}
+use Rattle.a2_bus.proofs.Spelling.{spelled-text}
 use Rattle.a2_debug_script.proofs.commands.keys_in.Goals as goal
 
 pub returns-in_default-clause-none : goal.returns-in_default-clause-none

@@ -1,6 +1,0 @@
-use Rattle.std.proofs.Common.{length}
-use Rattle.a2_import.proofs.listing.bytes_of.Given as goal
-
--- one byte fewer
-abbrev pub decreases-loop-byte : goal.decreases-loop-byte
-decreases-loop-byte g l = length l.rest

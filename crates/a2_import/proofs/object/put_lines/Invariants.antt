@@ -1,8 +1,0 @@
-use Rattle.std.proofs.Common.{◌≡◌, ◌++◌, map, take}
-use Rattle.std.specs.List.{flat_map}
-use Rattle.a2_import.specs.Listing.{object_row}
-use Rattle.a2_import.proofs.object.put_lines.Given as goal
-
--- the lines so far were appended
-abbrev pub invariant-loop-line : goal.invariant-loop-line
-invariant-loop-line g l = l.object.items ≡ l.fn.object.items ++ flat_map object_row (take l.line-index (map (λ x. x.now) l.lines))
