@@ -2,7 +2,7 @@
 use Rattle.std.specs.Prelude.{ℕ, ◌+◌, Bool, true, false, not, ◌&&◌, ◌||◌, ◌==◌, List, [], ◌∷◌, take, drop, get_or, codes, Option, Some, None, is_none, if◌then◌else◌}
 use Rattle.std.specs.List.{prefix_len, list_any}
 use Rattle.std.specs.Str.{str_eq_ignore_ascii_case}
-use Rattle.a2_text.specs.Bytes.{is_among, is_between, is_blank, capital}
+use Rattle.a2_text.specs.Bytes.{is_among, is_between, is_blank}
 use Rattle.a2_text.specs.Lines.{lines}
 use Rattle.a2_text.specs.Signs.{sign}
 use Rattle.a2_text.specs.Words.{after_blanks}

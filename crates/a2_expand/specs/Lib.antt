@@ -1,3 +1,9 @@
 pub mod Larger
 pub mod Plain
 pub mod Places
+pub mod Expressions
+pub mod Calculating
+pub mod Pieces
+pub mod Conditions
+pub mod Data
+pub mod Written

@@ -1,5 +1,10 @@
 //! The plain lines of lines that stand alone: everything but blocks and macros.
 
+ghost use Rattle.std.specs.Prelude.{◌≡◌, map, pos, IfOk, Some};
+ghost use Rattle.a2_expand.specs.Data.{shown};
+ghost use Rattle.a2_expand.specs.Expressions.{Says};
+ghost use Rattle.a2_expand.specs.Pieces.{pieces_of};
+
 use crate::adding::add;
 use crate::fault::{ExpandFault, Origin, Problem, moved, trouble, trouble_at};
 use crate::larger::is_larger_line;
@@ -96,7 +101,9 @@ fn characters(operand: &[u8]) -> Result<&[u8], ExpandFault> {
 }
 
 // Returns the code of a character in inverse, or flashing, or `None` if there is none.
-fn shown_code(c: u8, flashing: bool) -> Option<u8> {
+fn shown_code(c: u8, flashing: bool) -> Option<u8>
+    ensures { result ≡ shown flashing c }
+{
     if c < 32 || c > 95 {
         return None;
     }
@@ -109,7 +116,9 @@ fn shown_codes<A: Allocator>(
     alloc: A,
     text: &[u8],
     flashing: bool,
-) -> Result<Vec<u8, A>, ExpandFault> {
+) -> Result<Vec<u8, A>, ExpandFault>
+    ensures { IfOk result (λ codes. map Some codes.items ≡ map (shown flashing) text.now) }
+{
     let mut codes = Vec::new(alloc);
     for c in text {
         let Some(code) = shown_code(*c, flashing) else {
@@ -145,7 +154,9 @@ fn later<'p>(parts: Parts<'p>) -> Parts<'p> {
 
 impl<A: Allocator + Copy> Builder<A> {
     // The names whose values are known.
-    fn known(&self) -> Known<'_, A> {
+    fn known(&self) -> Known<'_, A>
+        ensures { result.constants.now ≡ self.now.constants.items }
+    {
         Known {
             alloc: self.alloc,
             constants: self.constants.as_slice(),
@@ -338,7 +349,9 @@ impl<A: Allocator + Copy> Builder<A> {
     }
 
     /// Returns the value of a count, 0 to 65,535.
-    pub(crate) fn count_of(&self, text: &[u8]) -> Result<u32, ExpandFault> {
+    pub(crate) fn count_of(&self, text: &[u8]) -> Result<u32, ExpandFault>
+        ensures { IfOk result (λ count. Says self.now.constants.items (pieces_of text.now) (pos count)) }
+    {
         let value = value_of(text, &self.known())?;
         if value < 0 || value > 65535 {
             return Err(trouble_at(Problem::Count, text, 0));

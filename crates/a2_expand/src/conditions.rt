@@ -1,5 +1,8 @@
 //! Conditions: which lines between IF and ENDIF are read.
 
+ghost use Rattle.std.specs.Prelude.{IfOk};
+ghost use Rattle.a2_expand.specs.Conditions.{Answers};
+
 use crate::adding::add;
 use crate::fault::{ExpandFault, Origin, Problem, trouble};
 use crate::flow::{Flow, without_label};
@@ -19,7 +22,9 @@ pub(crate) struct Condition {
 
 impl<'t, A: Allocator + Copy> Flow<'t, A> {
     /// Whether the value of a condition is not 0.
-    pub(crate) fn holds(&self, operand: &[u8]) -> Result<bool, ExpandFault> {
+    pub(crate) fn holds(&self, operand: &[u8]) -> Result<bool, ExpandFault>
+        ensures { IfOk result (λ answer. Answers self.now.builder.constants.items operand.now answer) }
+    {
         if operand.is_empty() {
             return Err(trouble(Problem::NeedsOperand, b""));
         }

@@ -1,5 +1,7 @@
 //! Which lines are read, and in which order.
 
+ghost use Rattle.std.specs.Prelude.{◌≡◌};
+
 use crate::adding::add;
 use crate::binding::{Binding, substituted};
 use crate::builder::{Builder, new_builder};
@@ -116,7 +118,9 @@ fn file_frame<'t>(file: usize, first: usize, end: usize) -> Frame<'t> {
 
 impl<'t, A: Allocator + Copy> Flow<'t, A> {
     /// The names whose values are known.
-    pub(crate) fn known(&self) -> Known<'_, A> {
+    pub(crate) fn known(&self) -> Known<'_, A>
+        ensures { result.constants.now ≡ self.now.builder.constants.items }
+    {
         Known {
             alloc: self.alloc,
             constants: self.builder.constants.as_slice(),

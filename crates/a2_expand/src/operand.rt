@@ -1,5 +1,12 @@
 //! Operands of the larger language, written in the plain one.
 
+ghost use Rattle.std.specs.Prelude.{◌≡◌, ◌++◌, ◌⊎◌, ℤ, IfOk, OnOk, Some, decimal as decimal_of, true};
+ghost use Rattle.std.specs.List.{list_any};
+ghost use Rattle.a2_expand.specs.Expressions.{Says, piece, pieces};
+ghost use Rattle.a2_expand.specs.Written.{Writes, is_unknown, number_for};
+ghost use Rattle.a2_expand.specs.Calculating.{Tells};
+ghost use Rattle.a2_expand.specs.Pieces.{pieces_of};
+
 use crate::fault::{ExpandFault, Problem, trouble};
 use crate::larger::is_larger_operand;
 use crate::token::{Placed, Token, tokens_of};
@@ -22,10 +29,9 @@ pub(crate) struct Known<'k, A: Allocator> {
 }
 
 /// Appends a number in decimal.
-pub(crate) fn put_decimal<A: Allocator>(
-    out: &mut Vec<u8, A>,
-    number: u32,
-) -> Result<(), AllocError> {
+pub(crate) fn put_decimal<A: Allocator>(out: &mut Vec<u8, A>, number: u32) -> Result<(), AllocError>
+    ensures { OnOk result (out.new.items ≡ out.old.items ++ decimal_of number) }
+{
     out.extend_from_slice(decimal(u64::from(number)).as_slice())
 }
 
@@ -38,7 +44,9 @@ pub(crate) fn put_count<A: Allocator>(
 }
 
 // The number that stands for a value: a negative one in two's complement.
-fn number_of(value: i32, width: Width) -> Result<u32, ExpandFault> {
+fn number_of(value: i32, width: Width) -> Result<u32, ExpandFault>
+    ensures { Tells (λ n. n) result (number_for width value) }
+{
     if value >= 0 && value <= 65535 {
         return Ok(value as u32);
     }
@@ -52,7 +60,9 @@ fn number_of(value: i32, width: Width) -> Result<u32, ExpandFault> {
 }
 
 // Whether a token has an address whose value is not known here.
-fn is_address<A: Allocator>(token: &Token<'_>, constants: &[Constant<A>]) -> bool {
+fn is_address<A: Allocator>(token: &Token<'_>, constants: &[Constant<A>]) -> bool
+    ensures { result ≡ true → is_unknown constants.now (piece token.now) ≡ true }
+{
     match token {
         Token::Here | Token::Local(_) | Token::Anonymous(_) => true,
         Token::Name(name) => constant_of(constants, name).is_none(),
@@ -61,7 +71,9 @@ fn is_address<A: Allocator>(token: &Token<'_>, constants: &[Constant<A>]) -> boo
 }
 
 // Whether an expression has an address whose value is not known here.
-fn has_address<A: Allocator>(tokens: &[Placed<'_>], constants: &[Constant<A>]) -> bool {
+fn has_address<A: Allocator>(tokens: &[Placed<'_>], constants: &[Constant<A>]) -> bool
+    ensures { result ≡ true → list_any (is_unknown constants.now) (pieces tokens.now) ≡ true }
+{
     for placed in tokens {
         if is_address(&placed.token, constants) {
             return true;
@@ -223,17 +235,33 @@ fn put_part<'s, 'a, A: Allocator>(
     }
 }
 
+// Appends the number of an expression with a value.
+fn put_value<A: Allocator + Copy>(
+    out: &mut Vec<u8, A>,
+    tokens: &[Placed<'_>],
+    known: &Known<'_, A>,
+    width: Width,
+) -> Result<(), ExpandFault>
+    ensures { OnOk result (Writes known.now.constants.now (pieces tokens.now) width out.old.items out.new.items) }
+{
+    let value = evaluate(known.alloc, tokens, known.constants)?;
+    put_decimal(out, number_of(value, width)?)?;
+    Ok(())
+}
+
 // Appends an expression.
 fn put_tokens<A: Allocator + Copy>(
     out: &mut Vec<u8, A>,
     tokens: &[Placed<'_>],
     known: &Known<'_, A>,
     width: Width,
-) -> Result<(), ExpandFault> {
+) -> Result<(), ExpandFault>
+    // The expansion has the number of an expression with a value.
+    ensures { (z : ℤ) → Says known.now.constants.now (pieces tokens.now) z
+        → OnOk result (Writes known.now.constants.now (pieces tokens.now) width out.old.items out.new.items) }
+{
     if has_loose_operator(tokens) || !has_address(tokens, known.constants) {
-        let value = evaluate(known.alloc, tokens, known.constants)?;
-        put_decimal(out, number_of(value, width)?)?;
-        return Ok(());
+        return put_value(out, tokens, known, width);
     }
     let rest = put_part(out, tokens)?;
     put_sum(out, rest, known)
@@ -245,7 +273,11 @@ pub(crate) fn put_expression<A: Allocator + Copy>(
     text: &[u8],
     known: &Known<'_, A>,
     width: Width,
-) -> Result<(), ExpandFault> {
+) -> Result<(), ExpandFault>
+    // An expression with a value stays as it is, or becomes its number.
+    ensures { (z : ℤ) → Says known.now.constants.now (pieces_of text.now) z
+        → OnOk result ((out.new.items ≡ out.old.items ++ text.now) ⊎ Writes known.now.constants.now (pieces_of text.now) width out.old.items out.new.items) }
+{
     if !is_larger_operand(text) {
         out.extend_from_slice(text)?;
         return Ok(());
@@ -258,7 +290,12 @@ pub(crate) fn put_expression<A: Allocator + Copy>(
 pub(crate) fn value_of<A: Allocator + Copy>(
     text: &[u8],
     known: &Known<'_, A>,
-) -> Result<i32, ExpandFault> {
+) -> Result<i32, ExpandFault>
+    // What is returned is the value of the expression that the text is.
+    ensures found { IfOk result (λ z. Says known.now.constants.now (pieces_of text.now) z) }
+    // An expression with a value is not refused, unless memory runs out.
+    ensures only { (z : ℤ) → Says known.now.constants.now (pieces_of text.now) z → Tells (λ y. y) result (Some z) }
+{
     let tokens = tokens_of(known.alloc, text)?;
     evaluate(known.alloc, tokens.as_slice(), known.constants)
 }

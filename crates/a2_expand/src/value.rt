@@ -1,5 +1,12 @@
 //! The value of an expression whose names are all known.
 
+ghost use Rattle.std.specs.Prelude.{◌≡◌, ◌<ℤ◌, ◌≤ℤ◌, ◌∷◌, [], reverse, nat_lt, false, map, pos, IfOk, IfErr, OnOk, IfSome, IfNone, ℕ, ℤ, List, Ok, Err, Some, None, ◌⊎◌};
+ghost use Rattle.a2_expand.specs.declared.fault.Problem.TheVariants.{Memory};
+ghost use Rattle.a2_expand.specs.Expressions.{Says, changed as changed_value, combined as combined_value, infix_rank, piece, pieces, power_of_two, prefix_rank, truth as truth_value, value_of_name};
+ghost use Rattle.a2_expand.specs.Calculating.{Tells, applied, begun, calculated, closed, continued, finished, first, infix_of, is_beginning as begins, joining, opening, run, settled, sign_infix as infix_of_sign, signs_infix as infix_of_signs, start, state, step, term_value as value_of_term, waiting_rank};
+ghost use Rattle.a2_expand.specs.declared.value.Infix.TheVariants as infixes;
+ghost use Rattle.a2_expand.specs.declared.value.Waiting.TheVariants as waits;
+
 use crate::adding::add;
 use crate::fault::{ExpandFault, Problem, trouble, trouble_at};
 use crate::token::{Placed, Token};
@@ -13,7 +20,9 @@ pub(crate) struct Constant<A: Allocator> {
 }
 
 /// Returns the value of a name, if it is known.
-pub(crate) fn constant_of<A: Allocator>(constants: &[Constant<A>], name: &[u8]) -> Option<i32> {
+pub(crate) fn constant_of<A: Allocator>(constants: &[Constant<A>], name: &[u8]) -> Option<i32>
+    ensures { result ≡ value_of_name constants.now name.now }
+{
     for constant in constants {
         if constant.name.as_slice() == name {
             return Some(constant.value);
@@ -22,12 +31,30 @@ pub(crate) fn constant_of<A: Allocator>(constants: &[Constant<A>], name: &[u8]) 
     None
 }
 
-// An operator that waits for its right operand, or an open bracket.
+/// An operator before a term.
 #[derive(Clone, Copy)]
-enum Operator {
-    Open,
+pub(crate) enum Prefix {
     Low,
     High,
+    Negate,
+    Invert,
+}
+
+impl Prefix {
+    // How tightly it binds.
+    fn level(self) -> u8
+        ensures { result ≡ prefix_rank self }
+    {
+        match self {
+            Prefix::Low | Prefix::High => 1,
+            Prefix::Negate | Prefix::Invert => 5,
+        }
+    }
+}
+
+/// An operator between two terms.
+#[derive(Clone, Copy)]
+pub(crate) enum Infix {
     Equal,
     Unequal,
     Less,
@@ -44,74 +71,112 @@ enum Operator {
     Xor,
     ShiftLeft,
     ShiftRight,
-    Negate,
-    Invert,
 }
 
-impl Operator {
-    // How tightly it binds; an open bracket does not bind.
-    fn level(&self) -> u8 {
+impl Infix {
+    // How tightly it binds.
+    fn level(self) -> u8
+        ensures { result ≡ infix_rank self }
+    {
         match self {
-            Operator::Open => 0,
-            Operator::Low | Operator::High => 1,
-            Operator::Equal
-            | Operator::Unequal
-            | Operator::Less
-            | Operator::Greater
-            | Operator::AtMost
-            | Operator::AtLeast => 2,
-            Operator::Add | Operator::Subtract | Operator::Or => 3,
-            Operator::Negate | Operator::Invert => 5,
+            Infix::Equal
+            | Infix::Unequal
+            | Infix::Less
+            | Infix::Greater
+            | Infix::AtMost
+            | Infix::AtLeast => 2,
+            Infix::Add | Infix::Subtract | Infix::Or => 3,
             _ => 4,
         }
     }
+}
 
-    // Whether it has one operand.
-    fn is_unary(&self) -> bool {
-        matches!(
-            self,
-            Operator::Low | Operator::High | Operator::Negate | Operator::Invert
-        )
+/// An operator that waits for its right operand, or an open bracket.
+#[derive(Clone, Copy)]
+pub(crate) enum Waiting {
+    Open,
+    Prefix(Prefix),
+    Infix(Infix),
+}
+
+impl Waiting {
+    // How tightly it binds; an open bracket does not bind.
+    fn level(self) -> u8
+        ensures { result ≡ waiting_rank self }
+    {
+        match self {
+            Waiting::Open => 0,
+            Waiting::Prefix(prefix) => prefix.level(),
+            Waiting::Infix(infix) => infix.level(),
+        }
     }
 }
 
-// The operator of a token between two terms.
-fn binary(token: &Token<'_>) -> Option<Operator> {
-    Some(match token {
-        Token::Sign(b'+') => Operator::Add,
-        Token::Sign(b'-') => Operator::Subtract,
-        Token::Sign(b'|') => Operator::Or,
-        Token::Sign(b'*') => Operator::Multiply,
-        Token::Sign(b'/') => Operator::Divide,
-        Token::Sign(b'%') => Operator::Remainder,
-        Token::Sign(b'&') => Operator::And,
-        Token::Sign(b'^') => Operator::Xor,
-        Token::Sign(b'=') => Operator::Equal,
-        Token::Sign(b'<') => Operator::Less,
-        Token::Sign(b'>') => Operator::Greater,
-        Token::Pair(b'<', b'<') => Operator::ShiftLeft,
-        Token::Pair(b'>', b'>') => Operator::ShiftRight,
-        Token::Pair(b'<', b'>') => Operator::Unequal,
-        Token::Pair(b'<', b'=') => Operator::AtMost,
-        Token::Pair(b'>', b'=') => Operator::AtLeast,
+// The operator of a sign between two terms.
+fn sign_infix(sign: u8) -> Option<Infix>
+    ensures { result ≡ infix_of_sign sign }
+{
+    Some(match sign {
+        b'+' => Infix::Add,
+        b'-' => Infix::Subtract,
+        b'|' => Infix::Or,
+        b'*' => Infix::Multiply,
+        b'/' => Infix::Divide,
+        b'%' => Infix::Remainder,
+        b'&' => Infix::And,
+        b'^' => Infix::Xor,
+        b'=' => Infix::Equal,
+        b'<' => Infix::Less,
+        b'>' => Infix::Greater,
         _ => return None,
     })
 }
 
-// The operator of a token before a term; `begins` says that the expression or a bracket begins there.
-fn unary(token: &Token<'_>, begins: bool) -> Option<Operator> {
+// The operator of two signs between two terms.
+fn signs_infix(signs: (u8, u8)) -> Option<Infix>
+    ensures { result ≡ infix_of_signs signs.0 signs.1 }
+{
+    Some(match signs {
+        (b'<', b'<') => Infix::ShiftLeft,
+        (b'>', b'>') => Infix::ShiftRight,
+        (b'<', b'>') => Infix::Unequal,
+        (b'<', b'=') => Infix::AtMost,
+        (b'>', b'=') => Infix::AtLeast,
+        _ => return None,
+    })
+}
+
+// The operator of a token between two terms.
+fn infix_in(token: &Token<'_>) -> Option<Infix>
+    ensures { result ≡ infix_of (piece token.now) }
+{
+    match token {
+        Token::Sign(sign) => sign_infix(*sign),
+        Token::Pair(sign, other) => signs_infix((*sign, *other)),
+        _ => None,
+    }
+}
+
+// What waits after a token before a term; `begins` says that the expression or a bracket begins there.
+fn opened(token: &Token<'_>, begins: bool) -> Option<Waiting>
+    ensures { result ≡ opening begins (piece token.now) }
+{
     Some(match token {
-        Token::Sign(b'-') => Operator::Negate,
-        Token::Sign(b'~') => Operator::Invert,
-        Token::Sign(b'(') => Operator::Open,
-        Token::Sign(b'<') if begins => Operator::Low,
-        Token::Sign(b'>') if begins => Operator::High,
+        Token::Sign(b'-') => Waiting::Prefix(Prefix::Negate),
+        Token::Sign(b'~') => Waiting::Prefix(Prefix::Invert),
+        Token::Sign(b'(') => Waiting::Open,
+        Token::Sign(b'<') if begins => Waiting::Prefix(Prefix::Low),
+        Token::Sign(b'>') if begins => Waiting::Prefix(Prefix::High),
         _ => return None,
     })
 }
 
 // The power of two of a shift, or `None` if it shifts by more than 16 places.
-fn power(places: i32) -> Option<i32> {
+fn power(places: i32) -> Option<i32>
+    ensures is { result ≡ power_of_two places }
+    ensures positive { IfSome result (λ power. pos 0 <ℤ power) }
+    ensures small { IfSome result (λ power. power ≤ℤ pos 65536) }
+{
     Some(match places {
         0 => 1,
         1 => 2,
@@ -135,100 +200,183 @@ fn power(places: i32) -> Option<i32> {
 }
 
 // The value of a comparison.
-fn truth(holds: bool) -> Option<i32> {
-    Some(if holds { 1 } else { 0 })
+fn truth(holds: bool) -> i32
+    ensures { result ≡ truth_value holds }
+{
+    if holds { 1 } else { 0 }
 }
 
-// The value of an operator with two operands, or `None` if it is too large.
-fn combined(operator: Operator, a: i32, b: i32) -> Option<i32> {
+// The value of a shift to the left, or `None` if there is none.
+fn shifted_left(a: i32, b: i32) -> Option<i32>
+    ensures { result ≡ combined_value infixes.ShiftLeft a b }
+{
+    match power(b) {
+        Some(power) => a.checked_mul(power),
+        None => None,
+    }
+}
+
+// The value of a shift to the right, or `None` if there is none.
+fn shifted_right(a: i32, b: i32) -> Option<i32>
+    ensures { result ≡ combined_value infixes.ShiftRight a b }
+{
+    match power(b) {
+        Some(power) => Some(a.div_euclid(power)),
+        None => None,
+    }
+}
+
+// The quotient of two values, rounded toward 0, or `None` if there is none.
+fn quotient(a: i32, b: i32) -> Option<i32>
+    ensures { result ≡ combined_value infixes.Divide a b }
+{
+    a.checked_div(b)
+}
+
+// The remainder of two values, or `None` if there is none.
+fn remainder(a: i32, b: i32) -> Option<i32>
+    ensures { result ≡ combined_value infixes.Remainder a b }
+{
+    if b == 0 {
+        None
+    } else {
+        Some(a.wrapping_rem(b))
+    }
+}
+
+// The value of an operator with two operands, or `None` if it has none.
+fn combined(operator: Infix, a: i32, b: i32) -> Option<i32>
+    ensures { result ≡ combined_value operator a b }
+{
     match operator {
-        Operator::Equal => truth(a == b),
-        Operator::Unequal => truth(a != b),
-        Operator::Less => truth(a < b),
-        Operator::Greater => truth(a > b),
-        Operator::AtMost => truth(a <= b),
-        Operator::AtLeast => truth(a >= b),
-        Operator::Add => a.checked_add(b),
-        Operator::Subtract => a.checked_sub(b),
-        Operator::Multiply => a.checked_mul(b),
-        Operator::Divide => a.checked_div(b),
-        Operator::Remainder => a.checked_rem(b),
-        Operator::Or => Some(a | b),
-        Operator::And => Some(a & b),
-        Operator::Xor => Some(a ^ b),
-        Operator::ShiftLeft => a.checked_mul(power(b)?),
-        Operator::ShiftRight => a.checked_div_euclid(power(b)?),
-        _ => None,
+        Infix::Equal => Some(truth(a == b)),
+        Infix::Unequal => Some(truth(a != b)),
+        Infix::Less => Some(truth(a < b)),
+        Infix::Greater => Some(truth(a > b)),
+        Infix::AtMost => Some(truth(a <= b)),
+        Infix::AtLeast => Some(truth(a >= b)),
+        Infix::Add => a.checked_add(b),
+        Infix::Subtract => a.checked_sub(b),
+        Infix::Multiply => a.checked_mul(b),
+        Infix::Divide => quotient(a, b),
+        Infix::Remainder => remainder(a, b),
+        Infix::Or => Some(a | b),
+        Infix::And => Some(a & b),
+        Infix::Xor => Some(a ^ b),
+        Infix::ShiftLeft => shifted_left(a, b),
+        Infix::ShiftRight => shifted_right(a, b),
     }
 }
 
 // The value of an operator with one operand, or `None` if it is too large.
-fn changed(operator: Operator, a: i32) -> Option<i32> {
+fn changed(operator: Prefix, a: i32) -> Option<i32>
+    ensures { result ≡ changed_value operator a }
+{
     match operator {
-        Operator::Negate => a.checked_neg(),
-        Operator::Invert => Some(!a),
-        Operator::Low => Some(a & 255),
-        Operator::High => Some((a & 65535) / 256),
-        _ => Some(a),
+        Prefix::Negate => a.checked_neg(),
+        Prefix::Invert => Some(-1 - a),
+        Prefix::Low => Some(a.rem_euclid(256)),
+        Prefix::High => Some(a.rem_euclid(65536).div_euclid(256)),
     }
 }
 
 // Why two values cannot be combined.
-fn combining_problem(operator: Operator, b: i32) -> Problem {
+fn combining_problem(operator: Infix, b: i32) -> Problem {
     match operator {
-        Operator::Divide | Operator::Remainder if b == 0 => Problem::DivisionByZero,
+        Infix::Divide | Infix::Remainder if b == 0 => Problem::DivisionByZero,
         _ => Problem::Overflow,
     }
 }
 
-// The values and operators of an expression that is read from left to right.
-#[derive(Drop)]
-struct Calculator<A: Allocator> {
-    values: Vec<i32, A>,
-    waiting: Vec<Operator, A>,
+// Puts a value on a stack.
+fn put<T: Drop, A: Allocator>(stack: &mut Vec<T, A>, value: T) -> Result<(), ExpandFault>
+    ensures ok { OnOk result (reverse stack.new.items ≡ value ∷ reverse stack.old.items) }
+    ensures err { IfErr result (λ fault. fault.problem ≡ Memory) }
+{
+    add(stack, value)?;
+    Ok(())
 }
 
-// Replaces the last values by the value of an operator.
-fn apply<A: Allocator>(values: &mut Vec<i32, A>, operator: Operator) -> Result<(), ExpandFault> {
-    let Some(b) = values.pop() else {
+// Takes the last value off a stack.
+fn taken<T, A: Allocator>(stack: &mut Vec<T, A>) -> Option<T>
+    ensures some { IfSome result (λ x. reverse stack.old.items ≡ x ∷ reverse stack.new.items) }
+    ensures none { IfNone result (reverse stack.old.items ≡ []) }
+{
+    stack.pop()
+}
+
+// Returns the last value of a stack.
+fn top<T: Copy, A: Allocator>(stack: &Vec<T, A>) -> Option<T>
+    ensures { result ≡ first (reverse stack.now.items) }
+{
+    stack.last().copied()
+}
+
+// Replaces the last value by the value of an operator before it.
+fn apply_prefix<A: Allocator>(values: &mut Vec<i32, A>, operator: Prefix) -> Result<(), ExpandFault>
+    ensures { Tells (λ _. reverse values.new.items) result (applied (waits.Prefix operator) (reverse values.old.items)) }
+{
+    let Some(a) = taken(values) else {
         return Err(trouble(Problem::Incomplete, b""));
     };
-    if operator.is_unary() {
-        let Some(value) = changed(operator, b) else {
-            return Err(trouble(Problem::Overflow, b""));
-        };
-        add(values, value)?;
-        return Ok(());
-    }
-    let Some(a) = values.pop() else {
+    let Some(value) = changed(operator, a) else {
+        return Err(trouble(Problem::Overflow, b""));
+    };
+    put(values, value)
+}
+
+// Replaces the last two values by the value of an operator between them.
+fn apply_infix<A: Allocator>(values: &mut Vec<i32, A>, operator: Infix) -> Result<(), ExpandFault>
+    ensures { Tells (λ _. reverse values.new.items) result (applied (waits.Infix operator) (reverse values.old.items)) }
+{
+    let Some(b) = taken(values) else {
+        return Err(trouble(Problem::Incomplete, b""));
+    };
+    let Some(a) = taken(values) else {
         return Err(trouble(Problem::Incomplete, b""));
     };
     let Some(value) = combined(operator, a, b) else {
         return Err(trouble(combining_problem(operator, b), b""));
     };
-    add(values, value)?;
-    Ok(())
+    put(values, value)
+}
+
+// Replaces the last values by the value of an operator.
+fn apply<A: Allocator>(values: &mut Vec<i32, A>, waiting: Waiting) -> Result<(), ExpandFault>
+    ensures { Tells (λ _. reverse values.new.items) result (applied waiting (reverse values.old.items)) }
+{
+    match waiting {
+        Waiting::Open => Err(trouble(Problem::Bracket, b"(")),
+        Waiting::Prefix(operator) => apply_prefix(values, operator),
+        Waiting::Infix(operator) => apply_infix(values, operator),
+    }
 }
 
 // The last operator that waits, if it binds at least as tightly as `level`.
-fn due<A: Allocator>(waiting: &mut Vec<Operator, A>, level: u8) -> Option<Operator> {
-    let last = *waiting.last()?;
+fn due<A: Allocator>(waiting: &mut Vec<Waiting, A>, level: u8) -> Option<Waiting>
+    ensures some { IfSome result (λ w. (reverse waiting.old.items ≡ w ∷ reverse waiting.new.items) × (nat_lt (waiting_rank w) level ≡ false)) }
+    ensures none { IfNone result ((waiting.new.items ≡ waiting.old.items)
+        × ((values : List ℤ) → settled level values (reverse waiting.old.items) ≡ Some (values, reverse waiting.old.items))) }
+{
+    let Some(last) = top(waiting) else {
+        return None;
+    };
     if last.level() < level {
         return None;
     }
-    waiting.pop()
+    taken(waiting)
 }
 
 // Applies the operators that wait and bind at least as tightly as `level`, which is at least 1.
 fn settle<A: Allocator>(
     values: &mut Vec<i32, A>,
-    waiting: &mut Vec<Operator, A>,
+    waiting: &mut Vec<Waiting, A>,
     level: u8,
-) -> Result<(), ExpandFault> {
-    for _ in 0..waiting.len() {
-        let Some(operator) = due(waiting, level) else {
-            break;
-        };
+) -> Result<(), ExpandFault>
+    ensures { Tells (λ _. (reverse values.new.items, reverse waiting.new.items)) result
+        (settled level (reverse values.old.items) (reverse waiting.old.items)) }
+{
+    while let Some(operator) = due(waiting, level) {
         apply(values, operator)?;
     }
     Ok(())
@@ -245,7 +393,9 @@ fn term_problem(token: &Token<'_>) -> Problem {
 }
 
 // The value of a token that is a term, if it is known.
-fn known_value<A: Allocator>(token: &Token<'_>, constants: &[Constant<A>]) -> Option<i32> {
+fn known_value<A: Allocator>(token: &Token<'_>, constants: &[Constant<A>]) -> Option<i32>
+    ensures { result ≡ value_of_term constants.now (piece token.now) }
+{
     match token {
         Token::Number(n) => Some(i32::from(*n)),
         Token::Name(name) => constant_of(constants, name),
@@ -257,68 +407,133 @@ fn known_value<A: Allocator>(token: &Token<'_>, constants: &[Constant<A>]) -> Op
 fn term_value<A: Allocator>(
     placed: &Placed<'_>,
     constants: &[Constant<A>],
-) -> Result<i32, ExpandFault> {
+) -> Result<i32, ExpandFault>
+    ensures { Tells (λ z. z) result (value_of_term constants.now (piece placed.now.token)) }
+{
     match known_value(&placed.token, constants) {
         Some(value) => Ok(value),
         None => Err(trouble_at(term_problem(&placed.token), placed.text, placed.at)),
     }
 }
 
-impl<A: Allocator + Copy> Calculator<A> {
-    // Reads a token where a term is expected, and returns whether a term ends there.
+// The values and operators of an expression that is read from left to right, and whether a term has just ended.
+#[derive(Drop)]
+pub(crate) struct Calculator<A: Allocator> {
+    values: Vec<i32, A>,
+    waiting: Vec<Waiting, A>,
+    after_term: bool,
+}
+
+impl<A: Allocator> Calculator<A> {
+    // Whether an expression begins here, or one in brackets.
+    fn is_beginning(&self) -> bool
+        ensures { result ≡ begins (reverse self.now.waiting.items) }
+    {
+        matches!(top(&self.waiting), None | Some(Waiting::Open))
+    }
+
+    // Reads a token where a term is expected.
     fn begin_term(
         &mut self,
         placed: &Placed<'_>,
-        begins: bool,
         constants: &[Constant<A>],
-    ) -> Result<bool, ExpandFault> {
-        if let Some(operator) = unary(&placed.token, begins) {
-            add(&mut self.waiting, operator)?;
-            return Ok(false);
+    ) -> Result<(), ExpandFault>
+        ensures { Tells (λ _. state self.new) result (begun constants.now (state self.old) (piece placed.now.token)) }
+    {
+        if let Some(waiting) = opened(&placed.token, self.is_beginning()) {
+            put(&mut self.waiting, waiting)?;
+            self.after_term = false;
+            return Ok(());
         }
         let value = term_value(placed, constants)?;
-        add(&mut self.values, value)?;
-        Ok(true)
+        put(&mut self.values, value)?;
+        self.after_term = true;
+        Ok(())
     }
 
     // Closes a bracket at this place.
-    fn close(&mut self, at: usize) -> Result<bool, ExpandFault> {
+    fn close(&mut self, at: usize) -> Result<(), ExpandFault>
+        ensures { Tells (λ _. state self.new) result (closed (state self.old)) }
+    {
         settle(&mut self.values, &mut self.waiting, 1)?;
-        match self.waiting.pop() {
-            Some(Operator::Open) => Ok(true),
+        match taken(&mut self.waiting) {
+            Some(Waiting::Open) => {
+                self.after_term = true;
+                Ok(())
+            }
             _ => Err(trouble_at(Problem::Bracket, b")", at)),
         }
     }
 
-    // Reads a token after a term, and returns whether a term ends there.
-    fn after_term(&mut self, placed: &Placed<'_>) -> Result<bool, ExpandFault> {
+    // Lets an operator wait for its right operand.
+    fn join(&mut self, operator: Infix) -> Result<(), ExpandFault>
+        ensures { Tells (λ _. state self.new) result (joining (state self.old) operator) }
+    {
+        settle(&mut self.values, &mut self.waiting, operator.level())?;
+        put(&mut self.waiting, Waiting::Infix(operator))?;
+        self.after_term = false;
+        Ok(())
+    }
+
+    // Reads a token after a term.
+    fn continue_term(&mut self, placed: &Placed<'_>) -> Result<(), ExpandFault>
+        ensures { Tells (λ _. state self.new) result (continued (state self.old) (piece placed.now.token)) }
+    {
         if let Token::Sign(b')') = placed.token {
             return self.close(placed.at);
         }
-        let Some(operator) = binary(&placed.token) else {
+        let Some(operator) = infix_in(&placed.token) else {
             return Err(trouble_at(Problem::Expression, placed.text, placed.at));
         };
-        settle(&mut self.values, &mut self.waiting, operator.level())?;
-        add(&mut self.waiting, operator)?;
-        Ok(false)
+        self.join(operator)
+    }
+
+    // Reads a token.
+    fn read(&mut self, placed: &Placed<'_>, constants: &[Constant<A>]) -> Result<(), ExpandFault>
+        ensures { Tells (λ _. state self.new) result (step constants.now (state self.old) (piece placed.now.token)) }
+    {
+        if self.after_term {
+            self.continue_term(placed)
+        } else {
+            self.begin_term(placed, constants)
+        }
     }
 
     // Returns the value of the whole expression.
-    fn finish(&mut self) -> Result<i32, ExpandFault> {
+    fn finish(&mut self) -> Result<i32, ExpandFault>
+        ensures { Tells (λ z. z) result (finished (state self.old)) }
+    {
+        if !self.after_term {
+            return Err(trouble(Problem::Incomplete, b""));
+        }
         settle(&mut self.values, &mut self.waiting, 1)?;
         if !self.waiting.is_empty() {
             return Err(trouble(Problem::Bracket, b"("));
         }
-        match self.values.pop() {
+        match taken(&mut self.values) {
             Some(value) => Ok(value),
             None => Err(trouble(Problem::Incomplete, b"")),
         }
     }
 }
 
-// Whether an expression, or one in brackets, begins after this token.
-fn begins_after(token: &Token<'_>) -> bool {
-    matches!(token, Token::Sign(b'('))
+// Calculates the value of an expression from left to right.
+fn calculate<A: Allocator + Copy>(
+    alloc: A,
+    tokens: &[Placed<'_>],
+    constants: &[Constant<A>],
+) -> Result<i32, ExpandFault>
+    ensures { Tells (λ z. z) result (calculated constants.now (pieces tokens.now)) }
+{
+    let mut calculator = Calculator {
+        values: Vec::new(alloc),
+        waiting: Vec::new(alloc),
+        after_term: false,
+    };
+    for placed in tokens {
+        calculator.read(placed, constants)?;
+    }
+    calculator.finish()
 }
 
 /// Returns the value of an expression whose names are all known.
@@ -326,23 +541,11 @@ pub(crate) fn evaluate<A: Allocator + Copy>(
     alloc: A,
     tokens: &[Placed<'_>],
     constants: &[Constant<A>],
-) -> Result<i32, ExpandFault> {
-    let mut calculator = Calculator {
-        values: Vec::new(alloc),
-        waiting: Vec::new(alloc),
-    };
-    let mut after_term = false;
-    let mut begins = true;
-    for placed in tokens {
-        after_term = if after_term {
-            calculator.after_term(placed)?
-        } else {
-            calculator.begin_term(placed, begins, constants)?
-        };
-        begins = begins_after(&placed.token);
-    }
-    if !after_term {
-        return Err(trouble(Problem::Incomplete, b""));
-    }
-    calculator.finish()
+) -> Result<i32, ExpandFault>
+    // What is returned is the value of the expression that the tokens are.
+    ensures found { IfOk result (λ z. Says constants.now (pieces tokens.now) z) }
+    // An expression with a value is not refused, unless memory runs out.
+    ensures only { (z : ℤ) → Says constants.now (pieces tokens.now) z → Tells (λ y. y) result (Some z) }
+{
+    calculate(alloc, tokens, constants)
 }
