@@ -21,7 +21,8 @@ function asText(bytes) {
 }
 
 // A line of bytes: of the Monitor, Intel HEX or S-records; and another line that can be among them.
-const BYTES = /^\*?\s*[0-9A-F]{1,4}[-:]\s*[0-9A-F]{2}|^:[0-9A-F]{10}|^S[0-9][0-9A-F]{6}/i, BESIDE = /^\s*$|^\*|^[0-9A-F.]+[GL]?\s*$/i;
+const BYTES = /^\*?\s*[0-9A-F]{1,4}[-:]\s*[0-9A-F]{1,2}\b|^\*?\s*:\s*[0-9A-F]{1,2}\b|^:[0-9A-F]{10}|^S[0-9][0-9A-F]{6}/i,
+  BESIDE = /^\s*$|^\s*[*;\]]|=|^[0-9A-F.]+[GLST]?\s*$/i;
 
 function isDump(text) {
   const lines = text.split('\n');

@@ -5,3 +5,4 @@ pub mod Motorola
 pub mod Reading
 pub mod Plain
 pub mod AppleSingle
+pub mod Digits

@@ -5,11 +5,13 @@
 #![tactic(auto)]
 
 mod apple;
+mod digits;
 mod fault;
 mod filling;
 mod format;
 mod intel;
 mod laying;
+mod loading;
 mod monitor;
 mod motorola;
 mod plain;

@@ -5,10 +5,11 @@ ghost use Rattle.a2_hex.specs.Images.{held};
 ghost use Rattle.a2_hex.specs.ObjectLines.{image_of};
 
 use crate::fault::{Flaw, FormatFault};
+use crate::loading::load_lines;
 use crate::runs::next_run;
 use crate::same::is_same;
 use crate::writing::put_pairs;
-use a2_hex::{HexFault, Image, RAM_END, load_lines};
+use a2_hex::{HexFault, Image, RAM_END};
 use std::alloc::{AllocError, Global};
 
 /// Returns the image that lines of the Monitor load, in memory of `alloc`, as `load_lines` of `a2_hex` does. Fails at the first line that has

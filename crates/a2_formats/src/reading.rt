@@ -1,10 +1,11 @@
 //! Reading a text of records.
 
-ghost use Rattle.std.specs.Prelude.{◌≡◌, ◌≢◌, ◌<◌, slice_index, Ok, Err, IfOk, IfErr};
+ghost use Rattle.std.specs.Prelude.{◌≡◌, ◌≢◌, ◌<◌, slice_index, Ok, Err, OnOk, IfOk, IfErr};
 ghost use Rattle.a2_hex.specs.Images.{held};
 ghost use Rattle.a2_formats.specs.declared.fault.FormatFault.TheVariants.{Memory};
 ghost use Rattle.a2_formats.specs.Reading.{front_len, sign_of, step_of, payload, after_bytes, after_line, image_of};
 
+use crate::digits::read_pairs;
 use crate::fault::{Flaw, FormatFault};
 use crate::intel::hex_step;
 use crate::laying::{empty_image, lay};
@@ -12,7 +13,6 @@ use crate::motorola::s_step;
 use crate::records::Step;
 use a2_hex::Image;
 use a2_text::cut;
-use hex::FromHexError;
 use std::alloc::Global;
 
 /// The two kinds of records.
@@ -71,9 +71,14 @@ fn second(line: &[u8]) -> u8
     if line.len() > 1 { line[1] } else { 0 }
 }
 
-// Returns the bytes of the record in line `n`, after its type if that is one character.
-fn payload(alloc: Global, records: Records, n: usize, line: &[u8]) -> Result<Vec<u8>, FormatFault>
-    ensures is { IfOk result (λ bytes. payload records n line.now ≡ Ok bytes.items) }
+// Makes `bytes` those of the record in line `n`, after its type if that is one character.
+fn read_payload(
+    records: Records,
+    bytes: &mut Vec<u8>,
+    n: usize,
+    line: &[u8],
+) -> Result<(), FormatFault>
+    ensures is { OnOk result (payload records n line.now ≡ Ok bytes.new.items) }
     ensures refused { IfErr result (λ fault. fault ≢ Memory → payload records n line.now ≡ Err fault) }
 {
     let front = front_len(records);
@@ -83,11 +88,7 @@ fn payload(alloc: Global, records: Records, n: usize, line: &[u8]) -> Result<Vec
     if line[0] != sign_of(records) {
         return Err(FormatFault::At(n, Flaw::Form));
     }
-    match hex::decode(alloc, &line[front..]) {
-        Ok(bytes) => Ok(bytes),
-        Err(FromHexError::OutOfMemory) => Err(FormatFault::Memory),
-        Err(_) => Err(FormatFault::At(n, Flaw::Digits)),
-    }
+    read_pairs(bytes, n, &line[front..])
 }
 
 // Does what the record of line `n` says, and returns what was read before the next line.
@@ -116,12 +117,12 @@ fn read_bytes(
     }
 }
 
-// Reads one line, and returns what was read before the next one.
+// Reads one line, and returns what was read before the next one. `bytes` is room for those of the line.
 #[tactic(auto, unfolding(crate::specs::Reading::after_line))]
 fn read_line(
-    alloc: Global,
     records: Records,
     image: &mut Image,
+    bytes: &mut Vec<u8>,
     before: Place,
     n: usize,
     line: &[u8],
@@ -138,8 +139,8 @@ fn read_line(
     if before.ended {
         return Err(FormatFault::At(n, Flaw::AfterEnd));
     }
-    match payload(alloc, records, n, line) {
-        Ok(bytes) => read_bytes(
+    match read_payload(records, bytes, n, line) {
+        Ok(()) => read_bytes(
             records,
             image,
             before.base,
@@ -161,12 +162,13 @@ pub fn read_records(alloc: Global, records: Records, text: &[u8]) -> Result<Imag
 {
     let lines = cut(alloc, text)?;
     let mut image = empty_image(alloc)?;
+    let mut bytes = Vec::new(alloc);
     let mut place = Place {
         base: 0,
         ended: false,
     };
     for (i, line) in lines.iter().enumerate() {
-        place = read_line(alloc, records, &mut image, place, i + 1, line)?;
+        place = read_line(records, &mut image, &mut bytes, place, i + 1, line)?;
     }
     if !place.ended {
         return Err(FormatFault::At(lines.len(), Flaw::NoEnd));

@@ -4,13 +4,13 @@ ghost use Rattle.std.specs.Prelude.{◌≡◌, Ok, IfOk};
 ghost use Rattle.a2_hex.specs.Images.{held};
 ghost use Rattle.a2_formats.specs.Reading.{image_of};
 
+use crate::digits::digits_of;
 use crate::fault::{Flaw, FormatFault};
 use crate::reading::{Records, read_records};
 use crate::records::sum_of_bytes;
 use crate::runs::next_run;
 use crate::same::is_same;
 use a2_hex::{Image, RAM_END};
-use a2_text::hex_pair;
 use std::alloc::{AllocError, Global};
 
 // The most bytes of a record that is written.
@@ -19,7 +19,7 @@ const WIDTH: usize = 16;
 // Appends bytes as two digits each.
 pub(crate) fn put_pairs(text: &mut Vec<u8>, bytes: &[u8]) -> Result<(), AllocError> {
     for byte in bytes {
-        text.extend_from_slice(&hex_pair(*byte))?;
+        text.extend_from_slice(&digits_of(*byte))?;
     }
     Ok(())
 }

@@ -2,7 +2,7 @@
 use Rattle.std.specs.Prelude.{◌≡◌, ℕ, Bool, true, false, List, Option, Result, Ok, Err}
 use Rattle.std.specs.List.{flat_map}
 use Rattle.a2_stream.specs.Stream.{Taker, Sends, Breaks}
-use Rattle.a2_import.specs.Imported.{AssemblesTo}
+use Rattle.a2_monitor_listing.specs.Imported.{AssemblesTo}
 use Rattle.a2_diff.specs.declared.comparison.Change.{Change}
 use Rattle.a2_diff.specs.Rows.{rows}
 use Rattle.a2_diff.specs.Comparison.{Compares, shown}

@@ -14,13 +14,17 @@ use a2_stream::{Input, Output, put};
 use a2lab_commands::{CommandArgs, Host, Refusal};
 use std::alloc::Global;
 
-/// Writes where two images differ, and returns whether they do. If they have the same bytes, nothing is written. Fails without writing if
-/// memory runs out, and if a write fails.
-pub fn show_differences<W: Output>(
+// What is reported of images that have the same instructions at other addresses.
+const MOVED: &[u8] = b"a2lab: diff: the instructions are the same, but at other addresses\n";
+
+/// Writes where two images differ, and returns whether they do. If they have the same bytes, nothing is written. If only addresses differ,
+/// that is reported on `complaints`. Fails without writing if memory runs out, and if a write fails.
+pub fn show_differences<W: Output, E: Output>(
     alloc: Global,
     image: &Image,
     other: &Image,
     output: &mut W,
+    complaints: &mut E,
 ) -> Result<bool, RunFault>
     ensures { IfOk result (λ differ. ShowsDifferences (held image.now) (held other.now) (W.taker output.old) (W.taker output.new) differ) }
 {
@@ -30,6 +34,10 @@ pub fn show_differences<W: Output>(
     let changes = compare(alloc, image, other)?;
     let text = text_of(alloc, changes.as_slice())?;
     put(text.as_slice(), output)?;
+    if text.is_empty() {
+        // If this fails, there is no place left to report it.
+        let _ = put(MOVED, complaints);
+    }
     Ok(true)
 }
 
@@ -48,6 +56,12 @@ pub fn diff_of<'a, S: Shelf, D, C, R: Input, W: Output, E: Output>(
     };
     let image = loaded_image(given, Some(*first), form, host)?;
     let other = loaded_image(given, Some(*second), form, host)?;
-    let differ = show_differences(host.alloc, &image, &other, &mut host.output)?;
+    let differ = show_differences(
+        host.alloc,
+        &image,
+        &other,
+        &mut host.output,
+        &mut host.complaints,
+    )?;
     Ok(if differ { 1 } else { 0 })
 }

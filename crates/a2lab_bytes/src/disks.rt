@@ -9,13 +9,29 @@ use a2_stream::{Output, put_all};
 use a2lab_commands::{Message, Refusal, is_input};
 use std::alloc::{AllocError, Global};
 
+// The endings of the names of disks.
+const ENDINGS: [&str; 2] = [".dsk", ".do"];
+
+/// Returns whether a file has the name of a disk, in either case.
+pub(crate) fn is_disk(name: &str) -> bool {
+    for ending in ENDINGS {
+        let (_, end) = name
+            .as_bytes()
+            .split_at(name.len().saturating_sub(ending.len()));
+        if end.eq_ignore_ascii_case(ending.as_bytes()) {
+            return true;
+        }
+    }
+    false
+}
+
 /// Returns the name of a disk without the name of a file on it, and that name, as in `game.dsk:HELLO`.
 pub(crate) fn split_disk<'a>(name: Option<&'a str>) -> (Option<&'a str>, Option<&'a str>) {
     let Some(text) = name else {
         return (None, None);
     };
     match text.rsplit_once(':') {
-        Some((disk, part)) if disk.ends_with(".dsk") => (Some(disk), Some(part)),
+        Some((disk, part)) if is_disk(disk) => (Some(disk), Some(part)),
         _ => (name, None),
     }
 }

@@ -1,6 +1,6 @@
 //! The image of a file that a command names.
 
-use crate::disks::{file_on_disk, split_disk};
+use crate::disks::{file_on_disk, is_disk, split_disk};
 use crate::dumps::dumped_image;
 use crate::flaws::report_flaw;
 use a2_disk::DISK_LEN;
@@ -196,6 +196,11 @@ pub(crate) fn contents_of_file<'a, E: Output>(
         Some(form) => Some(form),
         None => format_of(alloc, bytes.as_slice()).map(FileForm::Format),
     };
+    if let (None, Some(disk)) = (form, name) {
+        if is_disk(disk) {
+            return Err(Refusal::of(Message::NotDisk, disk));
+        }
+    }
     Ok(Contents { name, bytes, form })
 }
 

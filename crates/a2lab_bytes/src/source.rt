@@ -219,11 +219,31 @@ fn show_part<'a, W: Output>(
     Ok(show_source(alloc, image, &request, output))
 }
 
-// What was read: a dump, and the names of places.
+/// What was read: a dump, and the names of places.
 #[derive(Drop)]
-struct Loaded<'t> {
-    dump: Dump<'t, Global>,
-    names: Vec<NamedPlace<'t>>,
+pub(crate) struct Loaded<'t> {
+    pub dump: Dump<'t, Global>,
+    pub names: Vec<NamedPlace<'t>>,
+}
+
+/// Writes the source of what was read from the file `name`, or reports why there is none, and returns the exit status.
+pub(crate) fn source_of_loaded<'a, S, D, C, R, W: Output, E: Output>(
+    given: &CommandArgs<'_, 'a>,
+    asked: &mut Asked,
+    name: &str,
+    loaded: &Loaded<'_>,
+    host: &mut Host<S, D, C, R, W, E>,
+) -> Result<u8, Refusal<'a>>
+    ensures { IfOk result (λ status. status ≤ 5) }
+{
+    let shown = show_part(host.alloc, given.arguments, loaded, asked, &mut host.output)?;
+    match shown {
+        Ok(()) => Ok(0),
+        Err(ShownFault::Write) => Err(Refusal::Fault(RunFault::Write)),
+        Err(ShownFault::Source(fault)) => {
+            Ok(report_source_fault(name, fault, &mut host.complaints))
+        }
+    }
 }
 
 /// Writes the source of a file, or reports why there is none, and returns the exit status. `lines` has the names that are given to addresses.
@@ -242,20 +262,7 @@ pub(crate) fn source_from<'a, S, D, C, R, W: Output, E: Output>(
     let dump = dump_in(host.alloc, name, text, form, &mut host.complaints)?;
     let names = names_with(host.alloc, lines)?;
     let loaded = Loaded { dump, names };
-    let shown = show_part(
-        host.alloc,
-        given.arguments,
-        &loaded,
-        asked,
-        &mut host.output,
-    )?;
-    match shown {
-        Ok(()) => Ok(0),
-        Err(ShownFault::Write) => Err(Refusal::Fault(RunFault::Write)),
-        Err(ShownFault::Source(fault)) => {
-            Ok(report_source_fault(name, fault, &mut host.complaints))
-        }
-    }
+    source_of_loaded(given, asked, name, &loaded, host)
 }
 
 /// Writes a source that has the bytes of the file that the arguments name, or of standard input. Reports the first line that cannot be
