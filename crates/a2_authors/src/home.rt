@@ -155,23 +155,56 @@ pub fn warnings_at_home<A: Allocator + Copy>(
     Ok(found)
 }
 
-/// Returns the errors of `text`, a source whose expansion has `count` errors, if they say more than those: the source has no operation of
-/// the larger language, and not more errors than its expansion. Fails only if there is not enough memory.
+// Whether one of these errors is in this line of the source.
+fn is_in<A: Allocator>(errors: &[SourceError<A>], line: usize) -> bool {
+    for error in errors {
+        if error.file == 0 && error.line == line {
+            return true;
+        }
+    }
+    false
+}
+
+// Whether the expansion has an error in each line in which the source has one. If it has none in such a line, the error of the source is only
+// that the line is in the larger language.
+fn are_real<A: Allocator + Copy>(
+    alloc: A,
+    home: &Home<'_, A>,
+    text: &[u8],
+    own: &[Fault],
+    refusals: &[Fault],
+) -> Result<bool, AllocError> {
+    let expanded = errors_at_home(alloc, home, refusals)?;
+    let written = errors_of(alloc, text, own)?;
+    for error in &written {
+        if !is_in(expanded.as_slice(), error.line) {
+            return Ok(false);
+        }
+    }
+    Ok(true)
+}
+
+/// Returns the errors of `text`, a source whose expansion has these errors, if they say more than those: the source has no operation of the
+/// larger language, not more errors than its expansion, and errors only in lines in which that has errors. Fails only if there is not enough
+/// memory.
 pub fn errors_as_written<A: Allocator + Copy>(
     alloc: A,
+    home: &Home<'_, A>,
     text: &[u8],
-    count: usize,
+    refusals: &[Fault],
 ) -> Result<Option<Vec<Fault, A>>, AllocError>
     ensures own { IfOk result (λ found. IfSome found (λ faults. AreRefusals text.now faults.items)) }
-    ensures fewer { IfOk result (λ found. IfSome found (λ faults. length faults.items ≤ count)) }
+    ensures fewer { IfOk result (λ found. IfSome found (λ faults. length faults.items ≤ length refusals.now)) }
 {
     if uses_larger_operation(alloc, text)? {
         return Ok(None);
     }
-    let errors = refusals_of(alloc, text)?;
-    Ok(if errors.len() <= count {
-        Some(errors)
-    } else {
-        None
-    })
+    let own = refusals_of(alloc, text)?;
+    if own.len() > refusals.len() {
+        return Ok(None);
+    }
+    if !are_real(alloc, home, text, own.as_slice(), refusals)? {
+        return Ok(None);
+    }
+    Ok(Some(own))
 }

@@ -35,7 +35,7 @@ fn errors_in(
     home: &Home<'_, Global>,
     errors: &[Fault],
 ) -> Result<Option<Found>, AllocError> {
-    if errors_as_written(page.alloc, page.text, errors.len())?.is_some() {
+    if errors_as_written(page.alloc, home, page.text, errors)?.is_some() {
         return Ok(None);
     }
     Ok(Some(Found::Errors(errors_at_home(page.alloc, home, errors)?)))

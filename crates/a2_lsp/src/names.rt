@@ -140,7 +140,7 @@ fn fault_of(
     if places.is_empty() {
         return Ok(Some(NameFault::Nothing));
     }
-    if !is_name(new) || matches!(new, b"A" | b"a") || new.len() > 32 {
+    if !is_name(new) {
         return Ok(Some(NameFault::NotAName));
     }
     let others = places_of(page.alloc, page.lines, new)?;
