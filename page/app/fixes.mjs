@@ -34,8 +34,10 @@ const FORMS = [
   }],
   // A whole line with a name: `write COUNT EQU $06`.
   [new RegExp(`^write (${NAME} EQU .+)$`), ([, text], {line}) => ({from: 0, width: endOf(line), text})],
-  // An operation with its operand, which is after two blanks: `write  LDA #5`.
-  [/^write  ([A-Z]{2,4}(?: .+)?)$/, ([, text], {line, from}) => REMARK.test(text) ? undefined : {from, width: endOf(line) - from, text}],
+  // An operation with its operand, which is after two blanks: `write  LDA #5`. One blank stays before it: column 1 is for labels.
+  [/^write  ([A-Z]{2,4}(?: .+)?)$/, ([, text], {line, from}) => {
+    return REMARK.test(text) ? undefined : {from, width: endOf(line) - from, text: from ? text : ` ${text}`};
+  }],
   // A line at the beginning: `add the line COUT EQU $FDED`.
   [new RegExp(`^add the line (${NAME}) (EQU \\$[0-9A-F]+)$`), ([, name, rest]) => ({line: 1, from: 0, width: 0, text: `${name.padEnd(7)} ${rest}\n`})],
 ];

@@ -1,6 +1,7 @@
 // Tests the controls of a film's page by keyboard: node controls.mjs FILM.html [PICTURES], where the film is that of
 // examples/sieve.s, and PICTURES a folder for a picture of each width and colour scheme. Text with less contrast than
-// WCAG requires for AA is a failure, and so is anything wider than the window. The last line is 'N passed, M failed'.
+// WCAG requires for AA is a failure. So is anything wider than the window, and a small window or a printed page that
+// does not show what a pupil needs. The last line is 'N passed, M failed'.
 import {join, resolve} from 'node:path';
 import {browser} from './chromium.mjs';
 
@@ -44,6 +45,14 @@ await page.key('/');
 await page.type('256');
 await page.key('Enter');
 await is('/ and a number', 'at', 256);
+await page.key('/');
+await page.type('abc');
+await page.key('Enter');
+await is('/ and no number', '[at,$("say").textContent]', `256,${await page.value('"Write the number of a step, from "+B+" to "+(B+N)+"."')}`);
+for (const [key, wanted] of [['w', 'Nothing is chosen'], ['n', 'Nothing is chosen'], ['r', 'There is no step to return to']]) {
+  await page.key(key);
+  await is(`${key} with nothing chosen`, `[at,$("say").textContent.startsWith("${wanted}")]`, '256,true');
+}
 await page.value('a_=ADR[FIRST[500]-1],k_=stepOf(FIRST[500]-1);go(500);pick(a_)');
 await page.key('w');
 await is('w goes to the step that stored it', 'at==k_', true);
@@ -149,6 +158,27 @@ for (const [width, height] of [[1280, 900], [390, 844]]) for (const dark of [fal
   await view.close();
 }
 
+// ---- what a pupil needs in small windows, and in the tooltips of registers
+
+// Whether the middle of an element is visible without scrolling.
+const SEEN = `(e=>{const b=e.getBoundingClientRect(),t=document.elementFromPoint(b.x+b.width/2,b.y+b.height/2);return !!b.height&&e.contains(t)})`;
+const sized = (width, height) => chromium.open(url + '#step=401', {width, height});
+const tablet = await sized(1024, 768);
+told('1024: the source has nearly half of the width, enough for its comments',
+  await tablet.value('$("src").offsetWidth>=.45*innerWidth'), true);
+const small = await sized(800, 600);
+told('800x600: the next line of the source is on the first page', await small.value(`${SEEN}(document.querySelector("#src .now td:last-child"))`), true);
+const phone = await sized(360, 640);
+told('360: registers and set flags are on the first page', await phone.value(`${SEEN}($("strip"))&&$("strip").textContent`), 'A 00 X 85 Y 00 N');
+// (the program counts X up through all bytes)
+const tip = async (value, wanted) => {
+  const title = await tablet.value(`go(REG.x.indexOf(${value}));document.querySelector("[data-r=X]").title`);
+  told(`a tooltip with ${wanted}`, wanted.filter(part => !title.split(/[^-\w]+/).includes(part)), '');
+};
+await tip(0xC1, ['11000001', '-63', 'A']);
+await tip(0x25, ['00100101']);
+for (const view of [tablet, small, phone]) { told('small windows: errors and requests', view.faults(), ''); await view.close(); }
+
 // ---- on paper: no controls, the whole program, and dark colours become light
 const paper = await chromium.open(url + '#step=401', {width: 794, height: 1123, dark: true, media: 'print'});
 told('controls on paper', await paper.value('["nav","bar","memc","whot","link"].filter(i=>getComputedStyle($(i)).display!="none")'), '');
@@ -156,6 +186,15 @@ told('the program on paper', await paper.value('getComputedStyle($("src")).maxHe
 told('wider than the paper', await paper.value('document.documentElement.scrollWidth-document.documentElement.clientWidth'), 0);
 told('contrast on paper', await paper.value(LOW), '');
 told('errors on paper', paper.faults(), '');
+// (most of the screen is light in a picture of the page. The page itself decodes that picture, which counts as a request)
+const clip = JSON.parse(await paper.value('(({x,y,width,height})=>JSON.stringify({x:x+scrollX,y:y+scrollY,width,height,scale:1}))(cv.getBoundingClientRect())'));
+const {data} = await paper.call('Page.captureScreenshot', {format: 'png', clip, captureBeyondViewport: true});
+told('text on paper is dark on light, which saves ink', await paper.value(`(async()=>{const p=new Image;p.src="data:image/png;base64,${data}";await p.decode();
+  const c=document.createElement("canvas"),w=c.width=p.width,h=c.height=p.height,g=c.getContext("2d");g.drawImage(p,0,0);
+  const all=g.getImageData(0,0,w,h).data;let light=0;for(let i=0;i<all.length;i+=4)if(all[i+1]>127)light++;return light>.6*w*h})()`), true);
+told('each margin of the paper is at least 5 mm', await paper.value(`(()=>{const page=[...document.styleSheets].flatMap(s=>[...s.cssRules])
+  .flatMap(r=>r.media?.mediaText=="print"?[...r.cssRules]:[r]).find(r=>r instanceof CSSPageRule),e=document.createElement("p");document.body.append(e);
+  e.style.margin="0";const wide=["top","right","bottom","left"].every(side=>{e.style.width=page?.style["margin-"+side]||"0";return e.offsetWidth>=18});e.remove();return wide})()`), true);
 await chromium.close();
 console.log(`${passed} passed, ${failed} failed`);
 process.exit(failed ? 1 : 0);

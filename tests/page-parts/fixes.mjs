@@ -50,6 +50,11 @@ function foundIn(text) {
   return {errors, warnings};
 }
 
+/** Returns what an error is, without the words of the source that it is about. */
+function kindOf(words) {
+  return words.replace(/`[^`]*`/g, '``');
+}
+
 function errorsIn(text) {
   return foundIn(text).errors;
 }
@@ -106,7 +111,9 @@ function tryFixes(text) {
     if (!change) continue;
     const before = lines[change.line - 1], after = before.slice(0, change.from) + change.text + before.slice(change.from + change.width);
     const fixed = [...lines.slice(0, change.line - 1), after, ...lines.slice(change.line)].join('\n'), added = after.split('\n').length - 1;
-    if (errorsIn(fixed).some(it => it.line === line + added && it.code === code && it.text === words)) {
+    const isAlike = it => it.text === words || kindOf(it.text) === kindOf(words) && it.column === change.from + 1;
+    const isLeft = it => it.line === line + added && it.code === code && isAlike(it);
+    if (errorsIn(fixed).some(isLeft)) {
       ++failed;
       console.log(`FAILED: ${words}: ${fix}\n  before: ${before}\n  after:  ${after}`);
     } else {

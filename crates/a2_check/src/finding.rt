@@ -3,7 +3,7 @@
 use crate::elsewhere::known_elsewhere;
 use crate::forms::has_mode;
 use crate::line::{Parts, before, hex_and_rest, is_among, parts_of};
-use crate::mistake::{Finding, Mistake};
+use crate::mistake::{Finding, Mistake, equated, front_word};
 use crate::operand::{is_accumulator, mistake_in, mistake_in_text, name_len};
 use a2_opcode::{Mnemonic, Mode, row_of};
 use a2_syntax::is_name;
@@ -227,6 +227,37 @@ fn is_definition(name: &[u8], value: &[u8]) -> bool {
     is_name(name) && !is_operation(name) && begins_value(value)
 }
 
+// Returns the kind of the mistake of a name that `=` defines.
+fn of_equated(name: &[u8], value: &[u8], is_late: bool) -> Mistake {
+    if is_accumulator(name) && is_late && begins_value(value) {
+        Mistake::AccumulatorEquals
+    } else if is_accumulator(name) {
+        Mistake::RegisterName
+    } else if !is_late {
+        Mistake::GluedEquals
+    } else if is_among(name, b"X Y") {
+        Mistake::LateEqualsOfRegister
+    } else {
+        Mistake::LateEquals
+    }
+}
+
+// Finds a name that `=` defines: after blanks, or without blanks around the `=`.
+fn in_equated<'a>(parts: &Parts<'a>) -> Option<Finding<'a>> {
+    let (name, value) = equated(*parts);
+    let is_free = is_name(name) && !is_operation(name) || is_accumulator(name);
+    if !is_free || value.is_empty() {
+        return None;
+    }
+    let is_late = parts.label.is_empty();
+    let mistake = of_equated(name, value, is_late);
+    if is_late {
+        found(mistake, parts.operation_at, name)
+    } else {
+        found(mistake, 0, front_word(*parts))
+    }
+}
+
 // Finds a word that defines the name after it.
 fn in_definition<'a>(parts: &Parts<'a>) -> Option<Finding<'a>> {
     if is_among(parts.label, DEFINITIONS) && is_definition(parts.operation, parts.operand) {
@@ -324,10 +355,11 @@ fn in_parts<'a>(text: &'a [u8], parts: &Parts<'a>) -> Option<Finding<'a>> {
     if of_bytes.is_some() {
         return of_bytes;
     }
-    if !parts.label.is_empty() && is_among(parts.operation, b"= :=") {
+    let is_equated = is_among(parts.operation, b"= :=") && !is_accumulator(parts.label);
+    if is_equated && !parts.label.is_empty() {
         return found(Mistake::Equals, parts.operation_at, parts.operation);
     }
-    let of_definition = in_definition(parts);
+    let of_definition = in_definition(parts).or(in_equated(parts));
     if of_definition.is_some() {
         return of_definition;
     }

@@ -29,6 +29,10 @@ pub(crate) enum Mistake {
     NameSecond,
     Glued,
     Equals,
+    GluedEquals,
+    LateEquals,
+    LateEqualsOfRegister,
+    AccumulatorEquals,
     EquWithoutLabel,
     Other(Elsewhere),
     StarOrigin,
@@ -103,6 +107,48 @@ fn after_comma(word: &[u8]) -> &[u8] {
     }
 }
 
+/// Returns the first word of a line.
+pub(crate) fn front_word(parts: Parts<'_>) -> &[u8] {
+    if parts.label.is_empty() {
+        parts.operation
+    } else {
+        parts.label
+    }
+}
+
+// Returns what follows the first word of a line, or `None` if these are two words in column 1 or more.
+fn after_front_word(parts: Parts<'_>) -> Option<&[u8]> {
+    if parts.label.is_empty() {
+        Some(parts.operand)
+    } else if parts.operand.is_empty() {
+        Some(parts.operation)
+    } else {
+        None
+    }
+}
+
+/// Returns the name and the value of a definition with `=` after its first word or in it; both are empty if a line is not one.
+pub(crate) fn equated(parts: Parts<'_>) -> (&[u8], &[u8]) {
+    let word = front_word(parts);
+    let name = before(word, b'=');
+    let (_, glued) = word.split_at(name.len().saturating_add(1).min(word.len()));
+    match after_front_word(parts) {
+        Some(next) if name.len() == word.len() => (name, after_equals(next)),
+        Some(next) if glued.is_empty() => (name, next),
+        Some([]) => (name, glued),
+        _ => (b"", b""),
+    }
+}
+
+// Returns what follows `=` or `:=` and blanks at the front of a text, or nothing if it does not begin with that.
+fn after_equals(text: &[u8]) -> &[u8] {
+    match text {
+        [b'=', value @ ..] => after_blanks(value),
+        [b':', b'=', value @ ..] => after_blanks(value),
+        _ => b"",
+    }
+}
+
 // Returns the register of an index: the letter X or Y, alone or in parentheses.
 fn register_of(word: &[u8]) -> &[u8] {
     match word {
@@ -161,19 +207,24 @@ impl Mistake {
             Mistake::Colon => b"`@` must not end with a colon",
             Mistake::LocalLabel => b"`@` is not a valid name; a local label begins with a dot",
             Mistake::LongName => b"the name has more than 32 characters",
-            Mistake::RegisterName | Mistake::Accumulator => b"`@` is the accumulator, not a name",
+            Mistake::RegisterName | Mistake::Accumulator | Mistake::AccumulatorEquals =>
+                b"`@` is the accumulator, not a name",
             Mistake::BadName => b"`@` is not a valid name",
             Mistake::NameSecond => b"`@` is before the name, but a name begins in column 1",
             Mistake::Glued => b"`@` has no blank after the operation",
             Mistake::EquWithoutLabel => b"EQU needs a label",
             Mistake::ForcedForm | Mistake::Forced =>
                 b"`@` cannot force an addressing mode: the value of the operand decides it",
+            Mistake::GluedEquals => b"`=` is not an operation of this assembler",
             Mistake::Equals
             | Mistake::StarOrigin
             | Mistake::Other(_)
             | Mistake::NearMnemonic(_)
             | Mistake::NoOperation => b"`@` is not an operation of this assembler",
             Mistake::LateLabel => b"`@` is not an operation; a label begins in column 1",
+            Mistake::LateEquals => b"`@` is not an operation; a name begins in column 1",
+            Mistake::LateEqualsOfRegister =>
+                b"`@` is not an operation; LD@ loads the register, and a name begins in column 1",
             Mistake::NoOperand => b"`@` needs an operand",
             Mistake::OpenQuote => b"the quote is not closed",
             Mistake::EmptyText => b"ASC needs at least one character",
@@ -241,7 +292,11 @@ impl Mistake {
                 b"use another name, such as ACC, or leave A out if the instruction uses it anyway",
             Mistake::BadName => b"a name begins with a letter or _, then has letters, digits and _",
             Mistake::Glued => b"put a blank before the operand",
-            Mistake::Equals => b"write @ EQU ~",
+            Mistake::Equals
+            | Mistake::GluedEquals
+            | Mistake::LateEquals
+            | Mistake::LateEqualsOfRegister => b"write @ EQU ~",
+            Mistake::AccumulatorEquals => b"write  LDA @~",
             Mistake::EquWithoutLabel => b"put a name in column 1, as in FIVE EQU 5",
             Mistake::StarOrigin => b"write  ORG @",
             Mistake::ForcedForm => b"write  @ ~",
@@ -294,9 +349,13 @@ impl Mistake {
             Mistake::Colon | Mistake::LocalLabel | Mistake::LateLabel => unmarked(word),
             Mistake::NameSecond => name_and_value(parts).0,
             Mistake::TextInImmediate | Mistake::AccumulatorValue => b"#\"A\"",
+            Mistake::AccumulatorEquals => b"#",
             Mistake::TextAfterText | Mistake::BytesAfterText => after_comma(word),
             Mistake::Index => register_of(word),
             Mistake::Equals => parts.label,
+            Mistake::GluedEquals | Mistake::LateEquals | Mistake::LateEqualsOfRegister => {
+                equated(parts).0
+            }
             Mistake::StarOrigin => unstarred(word),
             Mistake::ForcedForm | Mistake::Forced => unforced(word),
             Mistake::Hexadecimal => digits_of(word),
@@ -311,6 +370,10 @@ impl Mistake {
             Mistake::OtherInFirstColumn(other) => after_first_one(other, parts),
             Mistake::Other(other) => kept(other, parts),
             Mistake::Equals | Mistake::ForcedForm => parts.operand,
+            Mistake::GluedEquals
+            | Mistake::LateEquals
+            | Mistake::LateEqualsOfRegister
+            | Mistake::AccumulatorEquals => equated(parts).1,
             Mistake::OperationInFirstColumn => parts.operation,
             Mistake::NameSecond => name_and_value(parts).1,
             Mistake::AccumulatorValue => b"#$A",

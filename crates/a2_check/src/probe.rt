@@ -1,8 +1,12 @@
 //! Assembles a changed source, in which lines with errors are replaced, to learn their addresses and values.
 
+use crate::forms::has_mode;
 use crate::line::{number_of, parts_of};
+use crate::names::missing;
 use a2_asm::{Program, assemble, refused};
-use a2_syntax::{Body, Fault, Line, parse};
+use a2_opcode::{Mnemonic, Mode};
+use a2_syntax::{Body, Fault, Line, Operand, parse};
+use a2_text::decimal;
 use std::alloc::{AllocError, Allocator};
 
 // A name that a source is unlikely to contain.
@@ -79,32 +83,92 @@ fn as_word(line: &[u8]) -> [&[u8]; 3] {
     [parts.label, b" DW ", parts.expression()]
 }
 
-/// Returns the program of a source in which each instruction with a bad value is replaced by that value as a word. Returns
-/// `None` if there is no such instruction, or if the changed source does not assemble.
+// Whether one of these lines is an instruction whose value is the error.
+fn has_word<A: Allocator>(lines: &[Line<A>], refusals: &[Fault]) -> bool {
+    for (i, line) in lines.iter().enumerate() {
+        if is_word(line, i, refusals) {
+            return true;
+        }
+    }
+    false
+}
+
+// Whether the line at an index cannot be assembled as it is: it has an undefined name, or it is DFB or DW with a bad value.
+fn is_room<A: Allocator>(
+    lines: &[Line<A>],
+    line: &Line<A>,
+    index: usize,
+    refusals: &[Fault],
+) -> bool {
+    match &line.body {
+        Body::Instr(_, _) => missing(lines, &line.body).is_some(),
+        Body::Dfb(_) | Body::Dw(_) => {
+            refusals.contains(&Fault::Range(number_of(index)))
+                || missing(lines, &line.body).is_some()
+        }
+        _ => false,
+    }
+}
+
+// Returns how many bytes an instruction has whose operand has an undefined name: as many as if a later line defined that name.
+fn instruction_len<A: Allocator>(mnemonic: Mnemonic, operand: &Operand<A>) -> usize {
+    let is_long = match operand {
+        Operand::Plain(_) => has_mode(mnemonic, Mode::Absolute),
+        Operand::WithX(_) => has_mode(mnemonic, Mode::AbsoluteX),
+        Operand::WithY(_) => has_mode(mnemonic, Mode::AbsoluteY),
+        Operand::InParentheses(_) => true,
+        _ => false,
+    };
+    if is_long { 3 } else { 2 }
+}
+
+// Returns how many bytes a line has, if it has an undefined name or a bad value.
+fn room_of<A: Allocator>(body: &Body<A>) -> usize {
+    match body {
+        Body::Instr(mnemonic, operand) => instruction_len(*mnemonic, operand),
+        Body::Dfb(es) => es.get().len(),
+        Body::Dw(es) => es.get().len().saturating_mul(2),
+        _ => 0,
+    }
+}
+
+// Appends a line with the label of another one, and as many bytes without a value.
+fn append_room<A: Allocator>(
+    text: &mut Vec<u8, A>,
+    line: &[u8],
+    count: usize,
+) -> Result<(), AllocError> {
+    text.extend_from_slice(parts_of(line).label)?;
+    text.extend_from_slice(b" DS ")?;
+    text.extend_from_slice(decimal(count as u64).as_slice())?;
+    text.push(b'\n')?;
+    Ok(())
+}
+
+/// Returns the program of a source in which each instruction with a bad value is replaced by that value as a word, and each other line
+/// with an undefined name or a bad value by as many bytes. Returns `None` if there is no such instruction, or if the changed source does
+/// not assemble.
 pub(crate) fn with_values<A: Allocator + Copy>(
     alloc: A,
     texts: &[&[u8]],
     lines: &[Line<A>],
     refusals: &[Fault],
 ) -> Result<Option<Program<A>>, AllocError> {
+    if !has_word(lines, refusals) {
+        return Ok(None);
+    }
     let mut text = Vec::new(alloc);
-    let mut is_changed = false;
     for (i, line) in lines.iter().enumerate() {
         let written = texts.get(i).copied().unwrap_or(b"");
-        let is_word = is_word(line, i, refusals);
-        is_changed |= is_word;
-        let pieces = if is_word {
-            as_word(written)
+        if is_word(line, i, refusals) {
+            append_line(&mut text, &as_word(written))?;
+        } else if is_room(lines, line, i, refusals) {
+            append_room(&mut text, written, room_of(&line.body))?;
         } else {
-            [written, b"", b""]
-        };
-        append_line(&mut text, &pieces)?;
+            append_line(&mut text, &[written])?;
+        }
     }
-    if is_changed {
-        tried(alloc, &mut text)
-    } else {
-        Ok(None)
-    }
+    tried(alloc, &mut text)
 }
 
 // Returns the line of the statement with the lowest address that reaches past the address named `name`, if that line comes

@@ -587,7 +587,7 @@ const NEEDS_WATCH: &[u8] =
 const NEEDS_VALUE: &[u8] =
     b"set needs a register (A X Y S P), a flag (N V D I Z C) or a place below $C000, then = and a number: 0 to 255, for a flag 0 or 1; or PC = and a place\n";
 
-// What `until`, `list`, `clear` and `goto` need, after their name.
+// What `until`, `list`, `clear`, `goto` and `break` need, after their name.
 const NEEDS_PLACE: &[u8] =
     b" needs a place: a name of the source, a line with an instruction such as 12:, or an address such as $300\n";
 
@@ -599,9 +599,12 @@ fn put_form<A: Allocator + Copy>(verb: Verb, sheet: &mut Sheet<A>) {
         Verb::Until => sheet.put_all(&[b"until", NEEDS_PLACE]),
         Verb::Clear => sheet.put_all(&[b"clear", NEEDS_PLACE]),
         Verb::List => sheet.put_all(&[b"list", NEEDS_PLACE]),
-        Verb::Break => sheet.put(
-            b"break needs a place, and may have a condition: break P if A = $40 (a register, a flag or a place; = <> < >; a number)\n",
-        ),
+        Verb::Break => {
+            sheet.put_all(&[b"break", NEEDS_PLACE]);
+            sheet.put(
+                b"a condition may follow it: break P if A = $40 (a register, a flag or a place; = <> < >; a number)\n",
+            )
+        }
         Verb::Mem => {
             sheet.put(b"mem needs one place, or two such as $300..$30F, the lower first\n")
         }

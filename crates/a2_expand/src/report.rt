@@ -3,9 +3,9 @@
 ghost use Rattle.std.specs.Prelude.{◌≡◌, IfOk};
 
 use crate::fault::{ExpandFault, Problem};
-use crate::larger::{is_run_byte, quote_after};
+use crate::larger::{is_run_byte, parted, quote_after};
 use crate::limits::{MOST_LINE_BYTES, limit_of};
-use a2_text::{cut, decimal};
+use a2_text::{after_blanks, cut, decimal, front_len};
 use std::alloc::{AllocError, Allocator};
 
 /// The text in which a fault is: the name of the file, and its source.
@@ -85,6 +85,10 @@ fn size_message(problem: Problem) -> &'static [u8] {
     }
 }
 
+// What is wrong with a register in a condition.
+const REGISTER_IN_IF: &[u8] =
+    b"`@` is a register, but IF decides while the text is assembled, not while the program runs";
+
 // Returns what is wrong.
 fn message(problem: Problem) -> &'static [u8] {
     let expression = expression_message(problem);
@@ -159,7 +163,7 @@ fn size_fix(problem: Problem) -> &'static [u8] {
         Problem::ManyNames => b"repeat fewer lines, or call a subroutine in place of a macro",
         Problem::LongSource | Problem::LongLine => b"write it as two lines",
         Problem::GrownLine =>
-            b"pass on a shorter text; a macro that calls itself may not pass a parameter on twice",
+            b"pass on a shorter text; a macro that calls itself must not pass a parameter on twice",
         Problem::ManyFiles => b"join some of them",
         Problem::ManySteps => b"repeat less, or use IF to stop a macro that calls itself",
         Problem::Remains => b"write the line in another way",
@@ -276,6 +280,92 @@ fn marked_len(line: &[u8], word: &[u8], at: usize) -> usize {
     rest.trim_ascii_end().len().max(1)
 }
 
+// Whether the operation of a line is IF or ELSEIF.
+fn is_decision(line: &[u8]) -> bool {
+    let (_, rest) = parted(line);
+    let (operation, _) = parted(after_blanks(rest));
+    operation.eq_ignore_ascii_case(b"IF") || operation.eq_ignore_ascii_case(b"ELSEIF")
+}
+
+// Returns the instruction that compares a register with a value, up to the value, or nothing if a word is not a register.
+fn comparison_of(word: &[u8]) -> &'static [u8] {
+    match word {
+        [b'A' | b'a'] => b"CMP #",
+        [b'X' | b'x'] => b"CPX #",
+        [b'Y' | b'y'] => b"CPY #",
+        _ => b"",
+    }
+}
+
+// Whether a byte can be part of a value that is written as one word.
+fn is_value_byte(c: u8) -> bool {
+    is_run_byte(c) || matches!(c, b'$' | b'%' | b'"' | b'\'')
+}
+
+// Returns the value with which a condition compares what ends at an index of its line, or 5 if the value is not a single word.
+fn compared_with(line: &[u8], end: usize) -> &[u8] {
+    let (_, rest) = line.split_at(end.min(line.len()));
+    let rest = after_blanks(rest);
+    let signs = front_len(rest, |c| matches!(c, b'=' | b'<' | b'>'));
+    let (_, value) = rest.split_at(signs.min(rest.len()));
+    let (value, _) = value.split_at(front_len(value, |c| c != b';').min(value.len()));
+    let value = value.trim_ascii();
+    if signs == 0 || value.is_empty() || front_len(value, |c| is_value_byte(c)) < value.len() {
+        return b"5";
+    }
+    value
+}
+
+// Whether a fault is that a condition needs the value of a register, which only the run has.
+fn is_about_register(line: &[u8], fault: &ExpandFault) -> bool {
+    fault.problem == Problem::UnknownValue
+        && is_decision(line)
+        && !comparison_of(fault.word.as_slice()).is_empty()
+}
+
+// Whether a fault is that a label ends with a colon, which is read as an anonymous label.
+fn is_about_colon(line: &[u8], fault: &ExpandFault) -> bool {
+    let (label, _) = parted(line);
+    fault.problem == Problem::NoAnonymous
+        && fault.word.as_slice() == b":".as_slice()
+        && label.ends_with(b":")
+}
+
+// Appends what is wrong.
+fn put_message<A: Allocator>(
+    out: &mut Vec<u8, A>,
+    line: &[u8],
+    fault: &ExpandFault,
+) -> Result<(), AllocError> {
+    if is_about_register(line, fault) {
+        return put_sentence(out, REGISTER_IN_IF, fault);
+    }
+    if is_about_colon(line, fault) {
+        return out.extend_from_slice(b"a label must not end with a colon");
+    }
+    put_sentence(out, message(fault.problem), fault)
+}
+
+// Appends how to fix a fault whose word begins at an index of its line.
+fn put_fix<A: Allocator>(
+    out: &mut Vec<u8, A>,
+    line: &[u8],
+    at: usize,
+    fault: &ExpandFault,
+) -> Result<(), AllocError> {
+    if is_about_colon(line, fault) {
+        return out.extend_from_slice(b"remove the colon");
+    }
+    if !is_about_register(line, fault) {
+        return put_sentence(out, fix(fault.problem), fault);
+    }
+    let word = fault.word.as_slice();
+    out.extend_from_slice(b"to test it while the program runs, write  ")?;
+    out.extend_from_slice(comparison_of(word))?;
+    put_shown(out, compared_with(line, at.saturating_add(word.len())))?;
+    out.extend_from_slice(b", then a branch in the next line, such as  BNE SKIP")
+}
+
 /// A fault in words.
 #[derive(Drop)]
 pub struct FaultReport<A: Allocator> {
@@ -315,9 +405,9 @@ pub fn fault_report<A: Allocator + Copy>(
     let line = line_of(alloc, source, fault.at.line)?;
     let at = place_in(line, fault);
     let mut text = Vec::new(alloc);
-    put_sentence(&mut text, message(fault.problem), fault)?;
+    put_message(&mut text, line, fault)?;
     let mut remedy = Vec::new(alloc);
-    put_sentence(&mut remedy, fix(fault.problem), fault)?;
+    put_fix(&mut remedy, line, at, fault)?;
     Ok(FaultReport {
         line: fault.at.line,
         column: at.saturating_add(1),

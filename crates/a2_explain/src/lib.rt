@@ -3,6 +3,7 @@
 //! CALLING.md shows how to call it.
 #![tactic(auto)]
 
+mod changes;
 mod circle;
 mod hook;
 mod lines;
@@ -18,4 +19,4 @@ mod step;
 mod stop;
 mod window;
 
-pub use stop::explain_stop;
+pub use stop::{explain_stop, explain_wait};

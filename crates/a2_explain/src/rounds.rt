@@ -1,5 +1,6 @@
 //! A run that stays in a loop of few addresses.
 
+use crate::changes::{changes_in, put_changes};
 use crate::hook::{hook_at, report_hook};
 use crate::lines::put_lines;
 use crate::past::{Past, WIDE};
@@ -130,10 +131,11 @@ fn is_own_jump(statement: &Statement) -> bool {
     }
 }
 
-// Writes which lines a loop has, and which branches would leave it.
+// Writes which lines a loop has, which branches would leave it, and which bytes it changed.
 fn put_loop<A: Allocator + Copy, W: Output>(
     scene: &Scene<A>,
     places: &[Place],
+    changes: &[u16],
     writer: &mut W,
 ) -> Result<(), WriteFault> {
     put(b"a2lab: the last ", writer)?;
@@ -141,7 +143,9 @@ fn put_loop<A: Allocator + Copy, W: Output>(
     put(b" steps were all in ", writer)?;
     put_lines(scene, places, writer)?;
     put(b"\n", writer)?;
-    if put_exits(scene, places, writer)? {
+    let has_exit = put_exits(scene, places, writer)?;
+    put_changes(scene, changes, writer)?;
+    if has_exit {
         return put(
             b"a2lab: change in the loop what its branch tests; if it only needs more steps, raise --limit\n",
             writer,
@@ -197,6 +201,7 @@ fn put_round<A: Allocator + Copy, W: Output>(
     scene: &Scene<A>,
     machine: &Machine<A>,
     places: &[Place],
+    changes: &[u16],
     writer: &mut W,
 ) -> Result<(), WriteFault> {
     let statements = scene.program.statements();
@@ -212,11 +217,25 @@ fn put_round<A: Allocator + Copy, W: Output>(
             return put_own_jump(scene, place.pc, writer);
         }
     }
-    put_loop(scene, places, writer)
+    put_loop(scene, places, changes, writer)
 }
 
-/// Writes which lines the loop has in which the last 4,096 steps of a run were, if they began at 64 addresses or fewer, and how its
-/// branches did not leave it. If the loop is a hook that leads to itself, writes what stored the hook.
+/// Writes which lines wait for a key, if the last 4,096 steps of a run were in a loop that waits for one.
+pub(crate) fn report_wait<A: Allocator + Copy, W: Output>(
+    scene: &Scene<A>,
+    past: &Past<'_, '_, A>,
+    writer: &mut W,
+) -> Result<(), RunFault> {
+    let (machine, places) = (past.ended().machine(), places_of(past)?);
+    let places = places.as_slice();
+    if is_waiting(scene, machine, places) {
+        put_wait(scene, places, writer)?;
+    }
+    Ok(())
+}
+
+/// Writes which lines the loop has in which the last 4,096 steps of a run were, if they began at 64 addresses or fewer, how its
+/// branches did not leave it, and which bytes it changed. If the loop is a hook that leads to itself, writes what stored the hook.
 pub(crate) fn report_round<A: Allocator + Copy, W: Output>(
     scene: &Scene<A>,
     past: &mut Past<'_, '_, A>,
@@ -226,7 +245,8 @@ pub(crate) fn report_round<A: Allocator + Copy, W: Output>(
     let places = places.as_slice();
     let statements = scene.program.statements();
     if statements.iter().any(|it| is_among(it, places)) {
-        return Ok(put_round(scene, machine, places, writer)?);
+        let changes = changes_in(past)?;
+        return Ok(put_round(scene, machine, places, changes.as_slice(), writer)?);
     }
     match (places, hook_at(machine.regs().pc)) {
         ([_, ..], Some(hook)) => report_hook(scene, past, hook, writer),

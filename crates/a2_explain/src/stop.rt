@@ -5,7 +5,7 @@ use crate::off::{ending_of, report_off};
 use crate::overrun::report_overrun;
 use crate::past::{NEAR, Past, WIDE};
 use crate::returned::put_return;
-use crate::rounds::report_round;
+use crate::rounds::{report_round, report_wait};
 use crate::stack::returns_of;
 use crate::step::Step;
 use crate::window::report_window;
@@ -29,6 +29,13 @@ const CODE_PUSHES: &[u8] = b"a2lab: the stack is at $0100 to $01FF; put no code 
 
 const SERVICE_STORES: &[u8] =
     b"a2lab: that service stores at $24 to $29 and $0400 to $07FF (the screen), GETLN also at $0200; put no code there\n";
+
+// Where a BRK comes from that is not in the source.
+const BLANK_BRK: &[u8] =
+    b"a2lab: the source has no BRK there; a byte 0 is a BRK, and most of memory is 0 at the start\n";
+
+const STORED_BRK: &[u8] =
+    b" stored 0 there, and a byte 0 is a BRK; without --free, a run stops before such a store\n";
 
 // Writes which line of the source ran last.
 fn put_last<A: Allocator + Copy, W: Output>(
@@ -165,6 +172,49 @@ fn report_limit<A: Allocator + Copy, W: Output>(
     report_round(scene, past, writer)
 }
 
+// Writes that the BRK at which a run stopped overwrote a line of the source, and which line stored it, as far as the examined steps show.
+fn report_stored_brk<A: Allocator + Copy, W: Output>(
+    scene: &Scene<A>,
+    past: &mut Past<'_, '_, A>,
+    pc: u16,
+    writer: &mut W,
+) -> Result<(), RunFault> {
+    past.look_for_stores(&[pc])?;
+    put(b"a2lab: ", writer)?;
+    match past.last_store(pc) {
+        Some(step) => put_place(scene, step.regs.pc, writer)?,
+        None => put(b"the program", writer)?,
+    }
+    Ok(put(STORED_BRK, writer)?)
+}
+
+// Writes how a run came to a BRK that is not in the source, as a free run can.
+fn report_brk<A: Allocator + Copy, W: Output>(
+    alloc: A,
+    scene: &Scene<A>,
+    ended: &Ended<'_, A>,
+    writer: &mut W,
+) -> Result<(), RunFault> {
+    let pc = ended.machine().regs().pc;
+    let written = scene.program.instr_at(pc);
+    if let Some(instr) = written {
+        if instr.mnemonic == Mnemonic::Brk {
+            return Ok(());
+        }
+    }
+    put_stop(scene, pc, Cause::Brk, writer)?;
+    let mut past = Past::of(alloc, ended, NEAR)?;
+    if written.is_some() {
+        return report_stored_brk(scene, &mut past, pc, writer);
+    }
+    put(BLANK_BRK, writer)?;
+    let Some(ending) = ending_of(scene.program, past.steps()) else {
+        return Ok(());
+    };
+    put_last(scene, ending.of_source, writer)?;
+    report_off(scene, &mut past, ending, writer)
+}
+
 // Writes why a run stopped.
 fn explain<A: Allocator + Copy, W: Output>(
     alloc: A,
@@ -176,8 +226,8 @@ fn explain<A: Allocator + Copy, W: Output>(
     if matches!(cause, Cause::Returned) {
         return report_overrun(alloc, scene, ended, writer);
     }
-    if cause.is_normal_end() {
-        return Ok(());
+    if matches!(cause, Cause::Brk) {
+        return report_brk(alloc, scene, ended, writer);
     }
     put_stop(scene, ended.machine().regs().pc, cause, writer)?;
     if matches!(cause, Cause::Limit) {
@@ -189,9 +239,10 @@ fn explain<A: Allocator + Copy, W: Output>(
 /// Writes why the run of a source stopped, in lines that begin with `a2lab: `: the cause, what is at PC, the last line that ran, and
 /// how to fix it. If an RTS, a hook, the window or a block is wrong, it says which lines pushed, pulled or stored the bytes, as far as
 /// the last 65,536 steps show. At the limit it says which lines call one another in a circle, or which loop the last 4,096 steps were
-/// in, and how its branches did not leave it. Nothing is written of a run that ends by BRK, or by RETURNED, unless an RTS ended the
-/// program in a routine into which it ran on. `ended` is a run of this source. Fails if a write fails, or if there is not enough
-/// memory. This project's profile.
+/// in, how its branches did not leave it, and which bytes it changed. Of a BRK that is not in the source it says how the run came there, or
+/// which line stored it. Nothing is written of a run that ends by a BRK of the source, or by RETURNED, unless an RTS ended the program in a
+/// routine into which it ran on. `ended` is a run of this source. Fails if a write fails, or if there is not enough memory. This project's
+/// profile.
 pub fn explain_stop<A: Allocator + Copy, W: Output>(
     alloc: A,
     assembled: &AssembledText<'_, A>,
@@ -204,4 +255,25 @@ pub fn explain_stop<A: Allocator + Copy, W: Output>(
         lines: lines.as_slice(),
     };
     explain(alloc, &scene, ended, writer)
+}
+
+/// Writes the line of [`explain_stop`] that says where a run waits for a key, if the run of a source stopped because no key was there, or
+/// if it reached its limit in a loop that waits for a key; otherwise nothing. `ended` is a run of this source. Fails if a write fails, or
+/// if there is not enough memory. This project's profile.
+pub fn explain_wait<A: Allocator + Copy, W: Output>(
+    alloc: A,
+    assembled: &AssembledText<'_, A>,
+    ended: &Ended<'_, A>,
+    writer: &mut W,
+) -> Result<(), RunFault> {
+    let lines = cut(alloc, assembled.text())?;
+    let scene = Scene {
+        program: assembled.program(),
+        lines: lines.as_slice(),
+    };
+    match ended.cause() {
+        Cause::Limit => report_wait(&scene, &Past::of(alloc, ended, WIDE)?, writer),
+        Cause::Keys => report_way(&scene, &mut Past::of(alloc, ended, NEAR)?, writer),
+        _ => Ok(()),
+    }
 }

@@ -304,7 +304,9 @@ function find(d,from=at){if(selr){const c=colr();for(let k=from;k>0&&k<=N;k+=d)i
 if(d<0){for(let c=FIRST[from+1]-1;c>=0;c--)if(ADR[c]==sel)return stepOf(c)}else for(let c=FIRST[min(N+1,from)];c<total;c++)if(ADR[c]==sel)return stepOf(c);
 return 0}
 function stepOf(c){let a=0,b=N+1;while(b-a>1){const m=a+b>>1;FIRST[m]<=c?a=m:b=m}return a}
-const jump=k=>{if(k){ret=at;go(k)}},who=()=>jump(find(-1,find(-1)==at?at-1:at)),next=()=>jump(find(1,at+1));
+const inform=t=>{txt("whot","");$("say").innerHTML="<p>"+t+"</p>"},jump=k=>{ret=at;go(k)};
+const look=(k,t)=>sel<0&&!selr?inform("Nothing is chosen; click a byte or a register."):k?jump(k):inform(esc(what())+" does not change "+t+" this step."),who=()=>look(find(-1,find(-1)==at?at-1:at),"before"),next=()=>look(find(1,at+1),"after");
+const goBack=()=>ret<0?inform("There is no step to return to; the keys w and n go to another step."):jump(ret);
 function whot(){const k=find(-1),b=k==at&&k?find(-1,at-1):0,n=find(1,at+1),l=(k,t)=>'<button data-go="'+k+'">'+t+" "+(B+k)+"</button>";
 $("whot").innerHTML=sel<0&&!selr?"":"<b>"+esc(what())+"</b> "+(selr?"":"holds "+hx(ram[sel]||0)+"; ")+(k?k==at?"this step changed it ("+esc(step(k))+"). ":"last changed by "+esc(step(k))+". ":"unchanged since the start. ")+(k&&k!=at?l(k,"Go to step"):"")+(b?l(b,"Previous change: step"):"")+(n?l(n,"Next change: step"):"")+(ret>=0&&ret!=at?l(ret,"Return to step"):"")}
 $("whot").onclick=$("regs").onclick=e=>{const b=e.target.closest("button");if(!b)return;if(b.dataset.go)jump(+b.dataset.go);else{pick(0,b.dataset.r);T_.querySelector('[data-r="'+b.dataset.r+'"]').focus()}};
@@ -343,11 +345,11 @@ function play(on){if(on&&at==N)seek(0);$("play").setAttribute("aria-pressed",!!o
 if(on){let prev=performance.now(),acc=0;const f=t=>{acc+=(t-prev)/1000*$("speed").value;prev=t;const n=floor(acc);if(n>0){acc-=n;
 let k=min(N,at+n);for(let i=at+1;i<k;i++)if(bps.has(PC[i])){k=i;break}
 go(k);if(at==N||bps.has(PC[at]))return play(0)}timer=requestAnimationFrame(f)};timer=requestAnimationFrame(f)}else hash()}
-function brk(d){if(!bps.size){txt("whot","");$("say").innerHTML="<p>No breakpoint is set; click a line of the program, or press x.</p>";return}
+function brk(d){if(!bps.size){inform("No breakpoint is set; click a line of the program, or press x.");return}
 let k=at+d;while(k>0&&k<N&&!bps.has(PC[k]))k+=d;go(k)}
 function over(d){const s=REG.s[at];let k=at+d;if(k>=0&&k<=N&&(d>0?ram[PC[at]]==0x20&&!svc[PC[at]]:REG.s[k]==(s-2&255)))while(k>0&&k<N&&(d>0?REG.s[k]!=s:REG.s[k]<s))k+=d;go(k)}
 $("at").max=N;$("at").oninput=e=>go(+e.target.value);
-const goto=()=>{go((parseInt($("goto").value)||0)-B);$("goto").blur()};
+const goto=()=>{const t=$("goto").value.trim();$("goto").blur();if(/^\d+$/.test(t))go(t-B);else inform("Write the number of a step, from "+B+" to "+(B+N)+".")};
 $("goto").onkeydown=e=>{if(e.key=="Enter")goto()};
 const num=t=>{t=t.trim();const n=F.names.find(n=>n[0]==t);return n?n[1]:X(t.replace("$",""))};
 $("adr").onchange=e=>{const a=num(e.target.value);if(a>=0&&a<RAM)pick(a)};
@@ -358,7 +360,7 @@ theme(mq.matches);mq.onchange=()=>theme(mq.matches);
 const on={home:()=>go(0),end:()=>go(N),b1:()=>go(at-1),f1:()=>go(at+1),play:()=>play(!timer),run:()=>brk(1),back:()=>brk(-1),over:()=>over(1),c0:()=>walk(-1),c1:()=>walk(1),gob:goto,pgm:()=>turn(page-1),pgp:()=>turn(page+1),dark:()=>theme(!T_.documentElement.classList.contains("dark"))};
 for(const i in on)$(i).onclick=on[i];
 document.onkeydown=e=>{const t=e.target;if(e.ctrlKey||e.altKey||e.metaKey||t.tagName=="SELECT"||t.type=="text"){if(e.key=="Escape")t.blur();return}
-const d=e.shiftKey?10:1,K={ArrowRight:()=>go(at+d),ArrowLeft:()=>go(at-d),Home:()=>go(0),End:()=>go(N),b:()=>brk(1),B:()=>brk(-1),o:()=>over(1),O:()=>over(-1),x:()=>mark(LINE[PC[at]]),c:()=>walk(1),C:()=>walk(-1),w:who,n:next,r:()=>{if(ret>=0)jump(ret)},"/":()=>{$("goto").focus();$("goto").select()}};
+const d=e.shiftKey?10:1,K={ArrowRight:()=>go(at+d),ArrowLeft:()=>go(at-d),Home:()=>go(0),End:()=>go(N),b:()=>brk(1),B:()=>brk(-1),o:()=>over(1),O:()=>over(-1),x:()=>mark(LINE[PC[at]]),c:()=>walk(1),C:()=>walk(-1),w:who,n:next,r:goBack,"/":()=>{$("goto").focus();$("goto").select()}};
 if(e.key==" "&&t.tagName!="BUTTON"&&t.type!="checkbox")K[" "]=()=>play(!timer);
 if(K[e.key]){if(timer&&e.key!=" ")play(0);K[e.key]();e.preventDefault()}};
 const fit=()=>T_.documentElement.style.setProperty("--hh",(innerWidth>640?$("hd").offsetHeight+12:0)+"px");onresize=fit;

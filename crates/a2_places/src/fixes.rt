@@ -105,7 +105,9 @@ fn written(alloc: Global, text: &[u8], marks: Marks) -> Result<Option<Change>, A
     }
     match text {
         [b' ', statement @ ..] if begins_with_operation(statement) && !is_remark(statement) => {
-            replacing(alloc, marks.from, marks.end, statement)
+            // Column 1 is for labels: there, the blank stays before the operation.
+            let new = if marks.from == 0 { text } else { statement };
+            replacing(alloc, marks.from, marks.end, new)
         }
         _ => Ok(None),
     }

@@ -368,7 +368,8 @@ fn text_to_assemble<'a, E: Output>(
         note_expansion(file.unwrap_or("-"), complaints);
         return Ok(made.text);
     }
-    if errors_as_written(alloc, text.as_slice(), errors.len())?.is_some() {
+    let home = home_of(alloc, &made)?;
+    if errors_as_written(alloc, &home, text.as_slice(), errors.as_slice())?.is_some() {
         return Ok(text);
     }
     let _ = put(made.warnings.as_slice(), complaints);

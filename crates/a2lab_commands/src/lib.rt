@@ -24,7 +24,7 @@ mod timed;
 mod wrapping;
 
 pub use asked::{CommandArgs, FileRunArgs, after_first, keys_in, run_args};
-pub use assembling::{assembled_text, report_source_errors};
+pub use assembling::{assembled_text, report_source_errors, report_warnings, report_warnings_of};
 pub use commands::{CommandRow, Tool, all_commands, command_named, row_of};
 pub use complaint::report_arguments;
 pub use drafts::settled;

@@ -52,6 +52,7 @@ pub enum Message {
     NotNameOnDisk,
     SeveralFilesForObject,
     LargeFile,
+    NotDisk,
     NoFilesOnDisk,
     NoSuchFileOnDisk,
     SeveralFilesOnDisk,
@@ -175,6 +176,8 @@ fn sentence(message: Message) -> &'static str {
             "object: several files need --dsk, without -o and --tape; give one file for each object or tape",
         Message::LargeFile =>
             "@: @ has more than 1048576 bytes, more than any source or image needs; check its name",
+        Message::NotDisk =>
+            "@: a file of this name is a disk, but it does not have the 143360 bytes of one; check whether it is whole",
         Message::NoFilesOnDisk =>
             "@: the disk has no binary file; only files of type B can be read",
         Message::NoSuchFileOnDisk =>

@@ -5,14 +5,16 @@ ghost use Rattle.std.specs.Prelude.{◌≤◌, IfOk};
 use a2_arguments::Arguments;
 use a2_asm::Program;
 use a2_bus::Keys;
+use a2_explain::explain_wait;
 use a2_host::Shelf;
 use a2_machine::{Cause, write_cause};
 use a2_profile::{
     Format, ProfileFault, Runs, Style, first_stop, profile_source, profile_source_routines,
 };
-use a2_run::{AssembledText, RunFault};
+use a2_run::{AssembledText, RunArgs, RunFault};
 use a2_stream::{Input, Output, put_all};
 use a2_text::decimal;
+use a2_timed_keys::{Ended, TimedArgs};
 use a2lab_commands::options::{BY, PROFILE_FORMAT, PROFILE_KEYS};
 use a2lab_commands::{
     CommandArgs, Host, Refusal, TimedRunArgs, assembled_text, ended_of, expanded_text_of, keys_in,
@@ -88,15 +90,49 @@ fn report_end<E: Output>(number: usize, spelling: &str, cause: Cause, complaints
     let _ = write_cause(cause, complaints);
 }
 
-// Reports each of several runs that stopped for another cause than RETURNED.
-fn report_ends<E: Output>(causes: &[Cause], spellings: &[&str], complaints: &mut E) {
-    if causes.len() < 2 {
-        return;
+// Reports which lines wait for a key, if a run with these keys stops because of that.
+fn report_wait<E: Output>(
+    alloc: Global,
+    assembled: &AssembledText<'_>,
+    timed: &TimedRunArgs<'_>,
+    keys: &Keys,
+    complaints: &mut E,
+) {
+    let run = RunArgs {
+        keys,
+        limit: timed.run.limit,
+        free: timed.run.free,
+    };
+    let args = TimedArgs {
+        run,
+        strokes: &timed.strokes,
+    };
+    if let Ok(ended) = Ended::of(alloc, assembled.program(), args) {
+        // If this fails, there is no place left to report it.
+        let _ = explain_wait(alloc, assembled, &ended, complaints);
     }
+}
+
+// Reports each of several runs that stopped for another cause than RETURNED, and of each run which lines wait for a key.
+fn report_ends<E: Output>(
+    alloc: Global,
+    (assembled, causes): (&AssembledText<'_>, &[Cause]),
+    timed: &TimedRunArgs<'_>,
+    asked: &ProfileArgs<'_>,
+    complaints: &mut E,
+) {
+    let several = causes.len() > 1;
     let mut number = 1usize;
-    for (cause, spelling) in causes.iter().zip(spellings) {
-        if *cause != Cause::Returned {
+    let spellings = asked.spellings.as_slice();
+    for (cause, (spelling, keys)) in causes
+        .iter()
+        .zip(spellings.iter().zip(asked.runs.as_slice()))
+    {
+        if several && *cause != Cause::Returned {
             report_end(number, *spelling, *cause, complaints);
+        }
+        if matches!(*cause, Cause::Limit | Cause::Keys) {
+            report_wait(alloc, assembled, timed, keys, complaints);
         }
         number = number.saturating_add(1);
     }
@@ -148,8 +184,8 @@ fn refusal_of<'a>(name: &'static str, fault: ProfileFault) -> Refusal<'a> {
     }
 }
 
-/// Profiles one run for each `--keys`, or one run. Of several, it reports each that stopped for another cause than RETURNED. The exit
-/// status is that of the first such run.
+/// Profiles one run for each `--keys`, or one run. Of several, it reports each that stopped for another cause than RETURNED, and of each
+/// which lines wait for a key. The exit status is that of the first such run.
 #[inline(never)]
 pub fn profile_of<'a, S: Shelf, D, C, R: Input, W: Output, E: Output>(
     given: &CommandArgs<'_, 'a>,
@@ -173,7 +209,13 @@ pub fn profile_of<'a, S: Shelf, D, C, R: Input, W: Output, E: Output>(
         Ok(causes) => causes,
         Err(fault) => return Err(refusal_of(timed.command, fault)),
     };
-    let (causes, spellings) = (causes.as_slice(), asked.spellings.as_slice());
-    report_ends(causes, spellings, &mut host.complaints);
+    let causes = causes.as_slice();
+    report_ends(
+        alloc,
+        (&assembled, causes),
+        &timed,
+        &asked,
+        &mut host.complaints,
+    );
     Ok(stop_status(first_stop(causes)))
 }

@@ -19,9 +19,8 @@ use a2lab_commands::options::{ATTRIBUTES, LAST, MEM, PNG, SAVE};
 use a2lab_commands::{
     CommandArgs, Host, Message, Refusal, Terminal, TimedRunArgs, assembled_text, end_status,
     ended_of, expanded_text_of, put_end_state, refuse_overwriting_input, report_fault,
-    timed_run_args,
+    report_warnings_of, timed_run_args,
 };
-use a2lab_sources::put_warnings_of;
 use std::alloc::Global;
 
 // Returns the part of RAM that a value of `--mem` names.
@@ -206,7 +205,7 @@ pub fn run_of<'a, S: Shelf, D: Desk, C, R: Input, W: Output, E: Output>(
         &mut host.complaints,
     )?;
     let assembled = assembled_text(alloc, file, text.as_slice(), &mut host.complaints)?;
-    put_warnings_of(alloc, file, &assembled, &mut host.complaints)?;
+    report_warnings_of(alloc, file, &assembled, &mut host.complaints)?;
     let asked = after_run_of(alloc, assembled.program(), given)?;
     refuse_overwriting_input(Message::ImageOverwrites, asked.image, file, &host.desk)?;
     let message = Message::PictureOverwrites;

@@ -5,7 +5,7 @@ ghost use Rattle.std.specs.Prelude.{◌≤◌, IfOk};
 use crate::spans::span_in;
 use a2_arguments::{Arguments, Given};
 use a2_asm::Program;
-use a2_explain::explain_stop;
+use a2_explain::{explain_stop, explain_wait};
 use a2_host::Shelf;
 use a2_machine::Cause;
 use a2_run::AssembledText;
@@ -67,11 +67,12 @@ fn trace<'a, S, D, C, R, W: Output, E: Output>(
         Some(choice) => trace_source(host.alloc, &ended, &choice, &mut host.output)?,
         None => trace_calls(host.alloc, &ended, &mut host.output)?,
     }
-    // (a trace is often limited on purpose)
-    if stop_status(ended.cause()) != 0 && ended.cause() != Cause::Limit {
-        // If this fails, there is no place left to report it.
-        let _ = explain_stop(host.alloc, assembled, &ended, &mut host.complaints);
-    }
+    // If this fails, there is no place left to report it. (A trace is often limited on purpose.)
+    let _ = match ended.cause() {
+        Cause::Returned => Ok(()),
+        Cause::Limit => explain_wait(host.alloc, assembled, &ended, &mut host.complaints),
+        _ => explain_stop(host.alloc, assembled, &ended, &mut host.complaints),
+    };
     timed.report_untyped(ended.machine().steps(), &mut host.complaints);
     Ok(stop_status(ended.cause()))
 }

@@ -1,7 +1,7 @@
 -- A listing that is written as a source. This project's profile.
 use Rattle.std.specs.Prelude.{◌≡◌, ℕ, List, Result, Ok, Err}
 use Rattle.a2_stream.specs.Stream.{Taker, Sends, Breaks}
-use Rattle.a2_import.specs.Imported.{AssemblesToListing, IsListingFault}
+use Rattle.a2_monitor_listing.specs.Imported.{AssemblesToListing, IsListingFault}
 use Rattle.a2lab_sources.specs.declared.import.RowsFault.{RowsFault}
 use Rattle.a2lab_sources.specs.declared.import.RowsFault.TheVariants.{Listing, Write}
 

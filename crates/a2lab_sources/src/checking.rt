@@ -6,16 +6,16 @@ use crate::authors::{put_expanded_warnings, put_unexpanded};
 use a2_arguments::Arguments;
 use a2_asm::Program;
 use a2_authors::errors_as_written;
-use a2_check::{Format, ReportFault, Verdict, put_refusals, put_warnings, verdict_of, warnings_of};
+use a2_check::{Format, ReportFault, Verdict, put_refusals, verdict_of, warnings_of};
 use a2_host::Shelf;
-use a2_run::{AssembledText, RunFault};
+use a2_run::RunFault;
 use a2_stream::{Input, Output, WriteFault, put, put_all};
 use a2_syntax::{Fault, Source};
 use a2_text::cut;
 use a2lab_commands::options::CHECK_FORMAT;
 use a2lab_commands::{
-    CommandArgs, Expanded, Host, Reading, Refusal, Unexpanded, put_errors_at_home, reading_of,
-    text_of,
+    CommandArgs, Expanded, Host, Reading, Refusal, Unexpanded, home_of, put_errors_at_home,
+    reading_of, report_warnings, text_of,
 };
 use bumpalo::Bump;
 use std::alloc::{AllocError, Allocator, Global};
@@ -59,42 +59,6 @@ fn put_headed<A: Allocator + Copy, W: Output>(
     put_refusals(alloc, text.name, text.source, refusals, format, output)
 }
 
-// Prints the warnings for a source that is accepted, by what its lines say and the program that they make.
-fn warn<A: Allocator + Copy, E: Output>(
-    alloc: A,
-    text: Text<'_>,
-    lines: &Source<A>,
-    program: &Program<A>,
-    complaints: &mut E,
-) -> Result<(), AllocError> {
-    let texts = cut(alloc, text.source)?;
-    let warnings = warnings_of(alloc, texts.as_slice(), lines.lines(), program)?;
-    // If this fails, there is no place left to report it.
-    let _ = put_warnings(text.name, texts.as_slice(), warnings.as_slice(), complaints);
-    Ok(())
-}
-
-/// Prints the warnings for an assembled source, as `check` does.
-pub fn put_warnings_of<E: Output>(
-    alloc: Global,
-    file: Option<&str>,
-    assembled: &AssembledText<'_>,
-    complaints: &mut E,
-) -> Result<(), AllocError> {
-    let text = Text {
-        name: file.unwrap_or("-"),
-        headed: false,
-        source: assembled.text(),
-    };
-    warn(
-        alloc,
-        text,
-        assembled.source(),
-        assembled.program(),
-        complaints,
-    )
-}
-
 // Prints all errors of a text, or the warnings of a text without errors. The exit status is 1 if there is an error.
 fn check<W: Output, E: Output>(
     alloc: Global,
@@ -110,7 +74,13 @@ fn check<W: Output, E: Output>(
     match verdict_of(&arena, text.source)? {
         Verdict::Accepted(lines, program) => {
             put_headed(&arena, text, &[], format, output)?;
-            warn(&arena, text, &lines, &program, complaints)?;
+            report_warnings(
+                &arena,
+                (text.name, text.source),
+                &lines,
+                &program,
+                complaints,
+            )?;
             Ok(0)
         }
         Verdict::Refused(refusals) => {
@@ -156,7 +126,8 @@ fn put_errors_of_larger<S, D, C, R, W: Output, E>(
     host: &mut Host<S, D, C, R, W, E>,
 ) -> Result<(), ReportFault> {
     let alloc = host.alloc;
-    if let Some(own) = errors_as_written(alloc, text.source, errors.len())? {
+    let home = home_of(alloc, made)?;
+    if let Some(own) = errors_as_written(alloc, &home, text.source, errors)? {
         return put_headed(alloc, text, own.as_slice(), format, &mut host.output);
     }
     put_name(text, format, &mut host.output)?;

@@ -4,10 +4,8 @@ ghost use Rattle.std.specs.Prelude.{◌≡◌, ◌≤◌, IfOk};
 ghost use Rattle.a2lab_sources.specs.Imports.{ShowsRows};
 
 use a2_hex::HexFault;
-use a2_import::{
-    Dialect, Difference, ImportFault, ListingFault, Note, NoteKind, Old, guess, import_listing,
-    import_source,
-};
+use a2_import::{Dialect, Difference, ImportFault, Note, NoteKind, Old, guess, import_source};
+use a2_monitor_listing::{ListingFault, import_listing};
 use a2_run::RunFault;
 use a2_stream::{Output, WriteFault, put, put_all};
 use a2_syntax::Fault;

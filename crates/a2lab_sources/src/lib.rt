@@ -13,7 +13,7 @@ mod fmt;
 mod import;
 mod listing;
 
-pub use checking::{check_of, put_warnings_of};
+pub use checking::check_of;
 pub use expanding::expand_of;
 pub use fmt::fmt_of;
 pub use import::import_text;
