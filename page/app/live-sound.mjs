@@ -1,5 +1,6 @@
 // The sound of a live session. It is off until the user asks for it.
 import {byId} from './dom.mjs';
+import {sourceOf} from './samples.mjs';
 import {isOn, setOn} from './store.mjs';
 import {Voice, reportIn} from './voice.mjs';
 
@@ -66,11 +67,8 @@ export class LiveSound {
 
   #play(samples, start) {
     if (samples.length === 0) return null;
-    const {sampleRate} = this.#context, buffer = this.#context.createBuffer(1, samples.length, sampleRate), source = this.#context.createBufferSource();
-    buffer.copyToChannel(samples, 0);
-    source.buffer = buffer;
-    source.connect(this.#out);
-    source.start(start / sampleRate);
+    const source = sourceOf(samples, this.#out);
+    source.start(start / this.#context.sampleRate);
     this.made += samples.length;
     return source;
   }

@@ -61,3 +61,17 @@ export class Cone {
 export function samplesOf(touches, rate, seconds) {
   return new Cone(rate).samples(touches.map(it => it * rate / CLOCK), 0, Math.ceil(seconds * rate));
 }
+
+/**
+ * Returns a source that plays these samples. It is connected to `out`, and its caller starts it.
+ * @param {Float32Array} samples At least one, at the rate of the context of `out`.
+ * @param {AudioNode} out
+ * @returns {AudioBufferSourceNode}
+ */
+export function sourceOf(samples, out) {
+  const {context} = out, buffer = context.createBuffer(1, samples.length, context.sampleRate), source = context.createBufferSource();
+  buffer.copyToChannel(samples, 0);
+  source.buffer = buffer;
+  source.connect(out);
+  return source;
+}

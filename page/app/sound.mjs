@@ -3,7 +3,7 @@
 import {byId, setText} from './dom.mjs';
 import {Cancelled, Runner} from './programs.mjs';
 import {Run} from './runs.mjs';
-import {CLOCK, samplesOf} from './samples.mjs';
+import {CLOCK, samplesOf, sourceOf} from './samples.mjs';
 
 const SPEAKER = 0xc030, MOST_SECONDS = 30;
 
@@ -55,11 +55,8 @@ export class Sound {
 
   #start(touches) {
     this.#context ??= new AudioContext();
-    const {sampleRate, destination} = this.#context, seconds = touches.at(-1) / CLOCK + 0.1, samples = samplesOf(touches, sampleRate, seconds);
-    const buffer = this.#context.createBuffer(1, samples.length, sampleRate), source = this.#context.createBufferSource();
-    buffer.copyToChannel(samples, 0);
-    source.buffer = buffer;
-    source.connect(destination);
+    const {sampleRate, destination} = this.#context, seconds = touches.at(-1) / CLOCK + 0.1;
+    const source = sourceOf(samplesOf(touches, sampleRate, seconds), destination);
     source.onended = () => { if (source === this.#source) this.#end(''); };
     this.#source = source;
     source.start();

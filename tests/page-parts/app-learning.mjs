@@ -142,7 +142,7 @@ const LISTEN = `the.played = [];
     sampleRate = 48000;
     get currentTime() { return performance.now() / 1000; }
     resume() {}
-    createGain() { return {connect() {}, disconnect() {}}; }
+    createGain() { return {context: this, connect() {}, disconnect() {}}; }
     createBuffer() { return {copyToChannel(samples) { this.samples = samples; }}; }
     createBufferSource() { return {connect() {}, stop() {}, start(at) { the.played.push({late: at * 1000 < performance.now(), at: Math.round(at * 48000), samples: this.buffer.samples}); }}; }
   }`;

@@ -246,11 +246,13 @@ async function keeping(value) {
         drop(new File(content, name)); await the.until(() => the.id('programs').value === name.replace(/\\..*/, ''), name);
         return the.id('source').value; };
       return [await opened('tiny.hex', ':06030000A9C120EDFD6023\\n:00000001FF\\n'), await opened('dump.mon', '*300.302\\n0300- A9 C1 60\\n'),
-        await opened('raw-2000.bin', new Uint8Array([0xA2, 5, 0xCA, 0xD0, 0xFD, 0x60])), the.notices().length]`));
+        await opened('raw-2000.bin', new Uint8Array([0xA2, 5, 0xCA, 0xD0, 0xFD, 0x60])),
+        await opened('session.mon', ']CALL -151\\n; A copy\\n300:A9 C1\\n:60\\n*300G\\n0302-    A=C1 X=00 Y=00 P=30 S=FF\\n'), the.notices().length]`));
     equal(found[0].includes('JSR COUT') && found[0].includes('ORG $0300'), true);
     equal(found[1].includes('LDA #$C1'), true);
     equal(found[2].includes('ORG $2000') && found[2].includes('BNE L2002'), true);
-    equal(found[3], 0);
+    equal(found[3].includes('; ]CALL -151') && found[3].includes('RTS'), true);
+    equal(found[4], 0);
   });
 }
 

@@ -7,7 +7,7 @@ import {instructionsIn} from '../../page/app/instructions.mjs';
 import {MOST_LINK, fragmentOf, programIn} from '../../page/app/link.mjs';
 import {inlineOf, isProgram, textOf, treeOf} from '../../page/app/markdown.mjs';
 import {sizeOf} from '../../page/app/record.mjs';
-import {Cone, samplesOf} from '../../page/app/samples.mjs';
+import {Cone, samplesOf, sourceOf} from '../../page/app/samples.mjs';
 import {entriesOf} from '../../page/app/stack.mjs';
 import {Voice, reportIn} from '../../page/app/voice.mjs';
 import {Clock} from '../../page/host.mjs';
@@ -84,6 +84,15 @@ await test('sound: a tone of 1,000 Hz has 1,000 waves a second, and silence is s
   const rises = samples.filter((it, at) => at > 0 && samples[at - 1] < 0 && it >= 0).length;
   equal([samples.length, Math.abs(rises - 1000) <= 2, Math.max(...samples) < 1], [44100, true, true]);
   equal(Math.max(...samplesOf([], 44100, 1).map(Math.abs)) < 1e-6, true);
+});
+await test('sound: a source plays its samples at the rate of where it leads', () => {
+  class Context {
+    sampleRate = 48000;
+    createBuffer(channels, length, rate) { return {size: [channels, length, rate], copyToChannel(samples, channel) { this.copied = [[...samples], channel]; }}; }
+    createBufferSource() { return {connect(to) { this.to = to; }}; }
+  }
+  const out = {context: new Context()}, {buffer, to} = sourceOf(new Float32Array([0.5, -0.25]), out);
+  equal([buffer.size, buffer.copied, to === out], [[1, 2, 48000], [[0.5, -0.25], 0], true]);
 });
 // What is heard of reports, each a list of cycles and the second at which it comes.
 function heard(reports, pace, rate) {
@@ -164,6 +173,7 @@ await test('a fix is written if its words are a new text', () => {
     [' BNE LOPO ; back', 5, 4, 'did you mean LOOP?', ' BNE LOOP ; back'],
     ['L1 BGE DONE  ; "x;y"', 3, 3, 'write  BCS DONE', 'L1 BCS DONE  ; "x;y"'],
     [' .TEXT "A;B" ; two', 1, 5, 'write  ASC "A;B"', ' ASC "A;B" ; two'],
+    ['.org $300 ; one', 0, 4, 'write  ORG $300', ' ORG $300 ; one'],
     [' LDA #0x4F', 6, 4, 'write $4F', ' LDA #$4F'],
     ['DONE: RTS', 0, 5, 'write DONE', 'DONE RTS'],
     ['COUT = $FDED ; prints', 5, 1, 'write COUT EQU $FDED', 'COUT EQU $FDED ; prints'],
