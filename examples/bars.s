@@ -29,7 +29,7 @@ NEXT LDY BAR
  LDA BAR
  CMP #5
  BNE NEXT
- LDA #20          ; HOME clears the four rows of text alone
+ LDA #20          ; HOME clears only the four rows of text
  STA WNDTOP
  JSR HOME
  LDA GRAPHICS     ; any access sets a switch

@@ -1,6 +1,6 @@
 ; A ball goes 100 steps over the screen and leaves a track. It is stored in text page 1, without the Monitor's services.
 ; The rows of a page do not follow one another in memory, so a table has the address of each.
-COLUMN EQU $06    ; where the ball is: column and, behind it, row
+COLUMN EQU $06    ; where the ball is: the column, and then the row
 ROW EQU COLUMN+1
 WAY EQU $08       ; the same for its way: 1, or $FF for back
 LEFT EQU $0A      ; the steps that are left

@@ -23,7 +23,7 @@ DONE LDA #<COUT1  ; leaves the hook as it was
 CAPITAL CMP #"a"
  BCC SHOW         ; below a: no small letter
  CMP #"z"+1
- BCS SHOW         ; behind z
+ BCS SHOW         ; after z
  AND #%11011111   ; the bit that parts small letters from capitals
 SHOW JMP COUT1
 TEXT ASC "Small letters, shown as Capitals."

@@ -59,7 +59,7 @@ FALL LDA #13       ; yellow
  LDA ROW
  CMP #FLOOR
  BNE FALL
- SEC               ; caught, if it is 0 to 4 columns behind the bar's first
+ SEC               ; caught, if it is 0 to 4 columns to the right of the bar's first
  LDA COLUMN
  SBC BAR
  CMP #WIDTH

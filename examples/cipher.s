@@ -1,4 +1,4 @@
-; Caesar's cipher: each letter becomes the third one behind it, and X, Y, Z become A, B, C. It reads keys up to a RETURN:
+; Caesar's cipher: each letter becomes the third one after it, and X, Y, Z become A, B, C. It reads keys up to a RETURN:
 ; ./a2 run examples/cipher.s --keys 'VENI, VIDI, VICI XYZ\r'
 RDKEY EQU $FD0C
 COUT EQU $FDED
@@ -11,7 +11,7 @@ NEXT JSR RDKEY    ; the key comes in A, with bit 7 set
  CMP #"A"
  BCC SHOW         ; below A: no letter
  CMP #"Z"+1
- BCS SHOW         ; behind Z
+ BCS SHOW         ; after Z
  ADC #SHIFT       ; C is clear, since BCS did not branch
  CMP #"Z"+1
  BCC SHOW

@@ -1,5 +1,5 @@
-; Counts the characters that go out, and leads them on to where the hook led before: so several such routines may stand one
-; behind another. The count is shown when the hook is back: a real PRBYTE puts its digits by COUT, and they would count.
+; Counts the characters that go out, and passes them to where the hook led before: so several such routines can follow
+; one another. The count is shown when the hook is back: a real PRBYTE puts its digits by COUT, and they would count.
 COUT EQU $FDED
 CROUT EQU $FD8E
 PRBYTE EQU $FDDA
@@ -23,7 +23,7 @@ NEXT LDA TEXT,X
  JSR COUT
  INX
  BNE NEXT         ; always: the text is short
-DONE JSR CROUT    ; comes to TALLY too
+DONE JSR CROUT    ; goes through TALLY too
  LDA OLD
  STA CSW
  LDA OLD+1

@@ -16,7 +16,7 @@ BYTE LDA START,X
  CPX #END-START
  BEQ DONE
  TXA
- AND #7           ; 0 behind each eight bytes
+ AND #7           ; 0 after each eight bytes
  BEQ RETURN
  LDA #" "
  JSR COUT
@@ -24,4 +24,4 @@ BYTE LDA START,X
 RETURN JSR CROUT
  JMP LINE
 DONE RTS
-END               ; the address behind the last byte
+END               ; the address after the last byte

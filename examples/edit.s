@@ -1,4 +1,4 @@
-; A text editor of one line, by GETLN. A line that is typed becomes the text; +MORE is put behind it, - takes its last character
+; A text editor of one line, by GETLN. A line that is typed becomes the text; +MORE is added after it, - takes its last character
 ; away, /AB makes each A a B, and RETURN alone ends.
 ; ./a2lab play examples/edit.s
 HOME EQU $FC58
@@ -39,7 +39,7 @@ ASK JSR GETLN
  LDX #0           ; all that was typed is the text
  STX LENGTH
  BEQ TAKE         ; always
-APPEND LDX #1     ; what stands behind the +
+APPEND LDX #1     ; what is after the +
 TAKE CPX TYPED
  BEQ SHOW
  LDY LENGTH

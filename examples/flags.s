@@ -1,4 +1,4 @@
-; Shows the flags behind some instructions: the letter of each flag that is set, and a dot for one that is not.
+; Shows the flags after some instructions: the letter of each flag that is set, and a dot for one that is not.
 COUT EQU $FDED
 CROUT EQU $FD8E
 BITS EQU $06

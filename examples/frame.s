@@ -1,5 +1,5 @@
 ; A title in a frame of inverse blanks. COUT puts the long sides; the short ones are stored in the screen, at the address that
-; VTAB leaves for the row in CV. How each character is shown stands behind the picture with --attr:
+; VTAB leaves for the row in CV. With --attr, rows after the picture say how each character is shown:
 ; ./a2 run examples/frame.s --attr
 COUT EQU $FDED
 HOME EQU $FC58

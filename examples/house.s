@@ -69,5 +69,5 @@ LIGHT LDY COLUMNS,X
  BPL LIGHT
  RTS
 COLUMNS DFB 22,24,22,24,35,34,36,35
-LIGHTS            ; behind the table
+LIGHTS            ; after the table
 ROWS DFB 20,20,22,22,2,3,3,4

@@ -30,7 +30,7 @@ FOUND STY CHOICE
  STA PLACE+1
  JSR GO
  JMP NEXT
-GO JMP (PLACE)    ; the command's RTS goes behind JSR GO
+GO JMP (PLACE)    ; the command's RTS continues after JSR GO
 ; The commands.
 HELP LDX #ALL-TEXTS
  JMP PRINT
@@ -40,10 +40,10 @@ STAR LDA #"*"
  DEX
  BNE STAR
  JMP CROUT
-QUIT PLA          ; the way back behind JSR GO is dropped,
+QUIT PLA          ; the return address of JSR GO is dropped,
  PLA              ; so that RTS ends the program
  RTS
-; Shows the text X bytes behind TEXTS, which ends by 0, and a return.
+; Shows the text X bytes after TEXTS, which ends by 0, and a return.
 PRINT LDA TEXTS,X
  BEQ END
  JSR COUT

@@ -1,4 +1,4 @@
-; Writes on text page 1, copies it in inverse to page 2, and shows that one. COUT and HOME know page 1 alone.
+; Writes on text page 1, copies it in inverse to page 2, and shows that one. COUT and HOME know only page 1.
 ; ./a2 run examples/pages.s --attr
 COUT EQU $FDED
 HOME EQU $FC58

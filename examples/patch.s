@@ -5,14 +5,14 @@ LETTER EQU $06
  LDA #"A"
  STA LETTER
  LDY #8           ; eight times 128 bytes
-NEXT LDX #119     ; 120 cells, which are three rows; the eight bytes behind them are no cells
+NEXT LDX #119     ; 120 cells, which are three rows; the eight bytes after them are not cells
  LDA LETTER
 STORE STA $400,X  ; this address
  DEX
  BPL STORE
  INC LETTER
  CLC
- LDA STORE+1      ; its low byte stands behind the opcode
+ LDA STORE+1      ; its low byte is after the opcode
  ADC #128
  STA STORE+1
  BCC LATER

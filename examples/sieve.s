@@ -34,9 +34,9 @@ SHOW LDA #"."
 PUT JSR COUT
  INX
  TXA
- AND #$0F         ; 0 behind each 16 numbers
+ AND #$0F         ; 0 after each 16 numbers
  BNE SHOW
  JSR CROUT
- TXA              ; 0 behind 255
+ TXA              ; 0 after 255
  BNE SHOW
  RTS

@@ -40,4 +40,4 @@ SIGN JSR COUT
  JSR PRBYTE
  JMP CROUT
 TABLE DFB 5,$FF,$7F,$80,0
-END               ; behind the table
+END               ; after the table

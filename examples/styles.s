@@ -1,4 +1,4 @@
-; Normal, inverse and flashing text. How each character is shown stands behind the picture with --attr:
+; Normal, inverse and flashing text. With --attr, rows after the picture say how each character is shown:
 ; ./a2 run examples/styles.s --attr
 COUT EQU $FDED
 CROUT EQU $FD8E
@@ -16,7 +16,7 @@ INVFLG EQU $32    ; COUT ANDs characters with this byte
  LDA #$FF         ; leaves the mask as it was
  STA INVFLG
  RTS
-; Shows the text X bytes behind TEXT, which ends by 0, with the mask A, and a return.
+; Shows the text X bytes after TEXT, which ends by 0, with the mask A, and a return.
 PRINT STA INVFLG
 NEXT LDA TEXT,X
  BEQ END

@@ -6,7 +6,7 @@ KEYIN EQU $FD1B
 COUT EQU $FDED
 KSW EQU $38       ; two bytes, the low one first
 AT EQU $06        ; how many keys of the table were taken
-SAVED EQU $07     ; A and, behind it, X
+SAVED EQU $07     ; A, and after it X
 RETURN EQU $8D
  ORG $300
  LDA #0
@@ -22,7 +22,7 @@ NEXT JSR RDKEY
  JMP NEXT
 DONE RTS
 ; X and Y have to stay: whoever calls RDKEY relies on them.
-TYPED STA SAVED   ; a real RDKEY hands on what stands under its cursor, and KEYIN puts it back
+TYPED STA SAVED   ; a real RDKEY hands on what is under its cursor, and KEYIN puts it back
  STX SAVED+1
  LDX AT
  LDA KEYS,X

@@ -25,7 +25,7 @@ GREEN EQU 4
  LDA MIXED
  LDA LORES
  JSR CLRSCR
- LDA #20          ; HOME clears the four rows of text alone
+ LDA #20          ; HOME clears only the four rows of text
  STA WNDTOP
  JSR HOME
  LDA #GREEN

@@ -3,7 +3,7 @@ COUT EQU $FDED
 CROUT EQU $FD8E
 HOME EQU $FC58
 PRBYTE EQU $FDDA
-WNDLFT EQU $20    ; four bytes: left edge, width, top row, the row behind the last
+WNDLFT EQU $20    ; four bytes: left edge, width, top row, the row after the last
 CV EQU $25        ; the cursor's row
 LINE EQU $06
  ORG $300
@@ -11,14 +11,14 @@ LINE EQU $06
  LDX #9           ; nine rows of dots
 DOTS LDY #40
 DOT LDA #"."
- JSR COUT         ; behind the 40th the cursor goes to the next row
+ JSR COUT         ; after the 40th the cursor goes to the next row
  DEY
  BNE DOT
  DEX
  BNE DOTS
  LDX #INSIDE-SIZES
  JSR RESIZE
- JSR HOME         ; clears the window alone, and puts the cursor at its top left
+ JSR HOME         ; clears only the window, and puts the cursor at its top left
  LDA #1
  STA LINE
 NEXT LDX #0
@@ -26,7 +26,7 @@ CHAR LDA TEXT,X
  BEQ NUMBER
  JSR COUT
  INX
- BNE CHAR         ; always: INX does not come to 0
+ BNE CHAR         ; always: INX never gives 0 here
 NUMBER LDA LINE
  JSR PRBYTE
  JSR CROUT        ; from the last row the window scrolls
@@ -39,7 +39,7 @@ NUMBER LDA LINE
  LDA #9
  STA CV
  JMP CROUT
-; Makes the window that of the four bytes X behind SIZES.
+; Makes the window that of the four bytes X after SIZES.
 RESIZE LDY #0
 EDGE LDA SIZES,X
  STA WNDLFT,Y
