@@ -1,7 +1,7 @@
 // Puts modules into a page. (A page that is opened from disk cannot import them.)
+import {execFileSync} from 'node:child_process';
 import fs from 'node:fs';
 import path from 'node:path';
-import {gzipSync} from 'node:zlib';
 
 const IMPORT = /^import (?:\{(.*)\}|\* as (\w+)) from '(\.[^']*)';$/gm, EXPORT = /^export (?=(?:async )?(?:function|class|const|let) (\w+))/gm;
 
@@ -37,10 +37,11 @@ export function expressionOf(value) {
 }
 
 /**
- * Returns bytes as `unpackBytes` of host.mjs expects them: gzipped, in base64.
+ * Returns bytes as `unpackBytes` of host.mjs expects them: gzipped, in base64. The system's gzip makes less of them than node's zlib, and its
+ * result does not depend on the version of node.
  * @param {Uint8Array | string} bytes
  * @returns {string}
  */
 export function packed(bytes) {
-  return gzipSync(bytes, {level: 9}).toString('base64');
+  return execFileSync('gzip', ['-9cn'], {input: bytes, maxBuffer: 2 ** 28}).toString('base64');
 }
